@@ -1,0 +1,22 @@
+//! The words that every layer of the store shares: epochs, log positions, transactions, replicas and their
+//! configurations, names and bytes, the sizes of quorums, and what it means that a count of faults rose.
+#![tactic(auto)]
+
+mod bytes;
+mod ids;
+mod limit_name;
+mod members;
+mod name;
+mod no_memory;
+mod quorum;
+
+pub use bytes::Bytes;
+pub use ids::{Epoch, Lsn, ReplicaId, TxnId};
+pub use limit_name::LimitName;
+pub use members::{Members, MembersError};
+pub use name::Name;
+pub use no_memory::NoMemory;
+pub use quorum::{read_quorum, write_quorum};
+
+#[cfg(test)]
+mod tests;
