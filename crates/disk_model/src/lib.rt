@@ -1,0 +1,11 @@
+//! Disks of four areas that may fail or be stopped at any call: what a call leaves, and what a stop may leave.
+#![tactic(auto)]
+
+mod area;
+mod change;
+mod disk;
+mod memory;
+
+pub use area::{Area, LOG0, LOG1, SLOT0, SLOT1};
+pub use disk::{CrashDisk, Disk, DiskError};
+pub use memory::MemDisk;
