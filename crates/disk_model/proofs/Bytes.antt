@@ -1,8 +1,7 @@
 -- Writes over bytes.
-use Rattle.std.proofs.Common.{◌≡◌, inl, inr, ℕ, ◌+◌, ◌-◌, ◌≤◌, ◌<◌, List, [], ◌∷◌, ◌++◌, length, take, drop, replicate, sym, ◌∙◌, ap, arith, length-append}
-use Rattle.std.proofs.lemmas.List.{append-nil, append_assoc, take_all, take_at, drop_all, drop-drop, length-take-le, length-drop, length-replicate, take-append-le, drop-append-le, replicate-append-replicate}
-use Rattle.std.proofs.lemmas.Slice.{overwrites}
-use Rattle.std.proofs.lemmas.Bool.{cases_eq, cases_lt}
+use Rattle.std.proofs.Common.{◌≡◌, inl, inr, ℕ, ◌+◌, ◌-◌, ◌≤◌, List, ◌++◌, length, take, drop, replicate, sym, ◌∙◌, ap, arith, length-append}
+use Rattle.std.proofs.lemmas.List.{append-nil, append_assoc, take_all, drop_all, drop-drop, length-take-le, length-drop, length-replicate, take-append-le, replicate-append-replicate}
+use Rattle.std.proofs.lemmas.Bool.{cases_lt}
 use borrow.Rule.Slice.PartMut.{put_mid}
 use Rattle.disk_model.specs.Disk.{written}
 use Rattle.disk_model.specs.Changes.{padded}

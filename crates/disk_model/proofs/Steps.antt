@@ -1,8 +1,8 @@
 -- The changes since a sync, one after the other.
-use Rattle.std.proofs.Common.{◌≡◌, ℕ, ◌+◌, ◌≤◌, ◌<◌, ◌/◌, ◌%◌, List, [], ◌∷◌, length, drop, get_or, sym, ◌∙◌, ap, subst, arith}
+use Rattle.std.proofs.Common.{◌≡◌, ℕ, ◌+◌, ◌≤◌, ◌<◌, ◌/◌, ◌%◌, List, ◌∷◌, length, drop, get_or, sym, ◌∙◌, ap, subst, arith}
 use Rattle.std.proofs.lemmas.List.{at_drop_more}
 use Rattle.disk_model.specs.Disk.{Areas, with_area}
-use Rattle.disk_model.specs.Changes.{left_of, left_by, done, end_of, reach}
+use Rattle.disk_model.specs.Changes.{left_of, left_by, done, reach}
 use Rattle.disk_model.specs.declared.change.Change.{Change}
 
 -- a function of the changes that are left, at the next of them

@@ -33,6 +33,10 @@ pub record Changes (area : ℕ) (step : List ℕ → List ℕ → Type 0) (old n
   pub there : step (old area) (new area)
   pub elsewhere : (b : ℕ) → b ≢ area → new b ≡ old b
 
+-- one area is changed so, and the others stay
+abbrev pub Becomes : ℕ → (List ℕ → List ℕ) → Areas → Areas → Type 0
+Becomes area change old new = new ≡ with_area area change old
+
 -- each image now is an image from before after this step
 abbrev pub Follows : (Areas → Areas → Type 0) → (Areas → Type 0) → (Areas → Type 0) → Type 0
 Follows step old new = (c : Areas) → new c → (d : Areas) × old d × step d c

@@ -1,5 +1,5 @@
 -- What a disk in memory keeps.
-use Rattle.std.specs.Prelude.{◌≡◌, ℕ, ◌^◌, Bool, ◌||◌, List, [], ◌∷◌, ◌++◌, nat_le, if◌then◌else◌}
+use Rattle.std.specs.Prelude.{ℕ, ◌^◌, Bool, ◌||◌, List, [], ◌∷◌, ◌++◌, nat_le, if◌then◌else◌}
 use Rattle.disk_model.specs.Disk.{Areas}
 use Rattle.disk_model.specs.Changes.{held}
 use Rattle.disk_model.specs.declared.change.Change.{Change}

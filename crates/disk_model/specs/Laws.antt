@@ -1,5 +1,5 @@
 -- The laws of a disk in memory.
-use Rattle.std.proofs.Common.{◌≡◌, inl, ℕ, zero, suc, ◌<◌, ◌^◌, List, [], ◌∷◌, length, Option, Some, sym, subst, arith, lit<, Vec}
+use Rattle.std.proofs.Common.{◌≡◌, inl, ℕ, zero, suc, ◌<◌, ◌^◌, List, [], ◌∷◌, length, Some, sym, subst, arith, lit<, Vec}
 use Rattle.std.specs.declared.alloc.Global.{Global}
 use Rattle.disk_model.specs.Disk.{Areas}
 use Rattle.disk_model.specs.Changes.{held, images_of}

@@ -1,4 +1,4 @@
-use Rattle.std.proofs.Common.{◌<◌, ◌≡◌, ◌∙◌, ap, get_or, ℕ, List, length, arith, sym, subst, Vec}
+use Rattle.std.proofs.Common.{◌∙◌, ap, ℕ, arith, sym, Vec}
 use Rattle.std.specs.declared.alloc.Global.{Global}
 use Rattle.disk_model.specs.Disk.{with_area}
 use Rattle.disk_model.specs.Changes.{held, left_of}

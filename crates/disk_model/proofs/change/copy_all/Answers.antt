@@ -1,4 +1,4 @@
-use Rattle.std.proofs.Common.{◌≡◌, ◌∙◌, ◌<◌, ◌≤◌, ◌≢◌, inl, inr, ℕ, length, get_or, arith, sym, ap, below_more, [], ◌+◌, ◌++◌, Vec, vec_capacity, vec_len}
+use Rattle.std.proofs.Common.{◌≡◌, ◌∙◌, ◌≤◌, inl, inr, ℕ, length, arith, sym, ap, below_more, ◌+◌, ◌++◌, Vec, vec_capacity, vec_len}
 use Rattle.std.specs.declared.alloc.Global.{Global}
 use Rattle.disk_model.specs.Changes.{held, room}
 use Rattle.disk_model.proofs.Areas.{same_areas, held_get, held_set_same, held_set_other, held_past, room_get, room_set, where_ok}

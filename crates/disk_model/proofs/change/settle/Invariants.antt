@@ -1,4 +1,4 @@
-use Rattle.std.proofs.Common.{◌≡◌, ◌≤◌, ℕ, length, drop}
+use Rattle.std.proofs.Common.{◌≡◌, ◌≤◌, ℕ, drop}
 use Rattle.disk_model.specs.Changes.{held, room, done, reach}
 use Rattle.disk_model.proofs.change.settle.Given as goal
 

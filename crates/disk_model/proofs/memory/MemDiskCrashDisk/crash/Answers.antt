@@ -1,6 +1,6 @@
-use Rattle.std.proofs.Common.{◌≡◌, ◌≤◌, ◌∙◌, ℕ, List, [], length, false, inr, refl, sym, ap, subst, arith}
+use Rattle.std.proofs.Common.{◌≡◌, ◌≤◌, ◌∙◌, List, [], length, inr, sym, ap, subst, arith}
 use Rattle.disk_model.specs.Disk.{Areas}
-use Rattle.disk_model.specs.Changes.{held, room, done, reach, left_by, MayLeaveOf, images_of}
+use Rattle.disk_model.specs.Changes.{held, room, done, reach, left_by, MayLeaveOf}
 use Rattle.disk_model.specs.Laws.{same_some}
 use Rattle.disk_model.specs.declared.change.Change.{Change}
 use Rattle.disk_model.proofs.Areas.{held_fits}

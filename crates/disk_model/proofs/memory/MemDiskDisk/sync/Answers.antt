@@ -1,4 +1,4 @@
-use Rattle.std.proofs.Common.{◌≡◌, ◌≤◌, ◌∙◌, ℕ, List, [], length, false, sym, ap, subst, arith}
+use Rattle.std.proofs.Common.{◌≡◌, ◌≤◌, ◌∙◌, List, [], length, false, sym, ap, subst, arith}
 use Rattle.disk_model.specs.Disk.{Areas}
 use Rattle.disk_model.specs.Changes.{held, room, done, reach}
 use Rattle.disk_model.specs.declared.change.Change.{Change}
