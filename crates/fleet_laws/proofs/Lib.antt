@@ -1,0 +1,17 @@
+pub mod Counts
+pub mod Agreement
+pub mod Tree
+pub mod Puts
+pub mod After
+pub mod Use
+pub mod Answering
+pub mod Copying
+pub mod Acknowledging
+pub mod Growing
+pub mod Turning
+pub mod Changing
+pub mod Activating
+pub mod Inheriting
+pub mod Appointing
+pub mod Booting
+pub mod Runs

@@ -1,0 +1,21 @@
+-- How many members of a configuration pass a test, and which numbers of them are quorums.
+use Rattle.std.specs.Prelude.{ℕ, suc, ◌≤◌, Bool, cond, List, [], ◌∷◌, length}
+use Rattle.fleet_laws.specs.Quorum.{write_quorum, read_quorum}
+
+-- how many of the members pass the test
+abbrev pub count : (ℕ → Bool) → List ℕ → ℕ
+count p [] = 0
+count p (m ∷ ms) = cond (p m) (suc (count p ms)) (count p ms)
+
+-- those that pass are a write quorum of the configuration
+abbrev pub IsWriteQuorum : (ℕ → Bool) → List ℕ → Type 0
+IsWriteQuorum p c = write_quorum (length c) ≤ count p c
+
+-- those that pass are a read quorum of the configuration
+abbrev pub IsReadQuorum : (ℕ → Bool) → List ℕ → Type 0
+IsReadQuorum p c = read_quorum (length c) ≤ count p c
+
+-- those that pass are a write quorum of each configuration
+abbrev pub IsWriteQuorumOfEach : (ℕ → Bool) → List (List ℕ) → Type 0
+IsWriteQuorumOfEach p [] = Unit {0}
+IsWriteQuorumOfEach p (c ∷ cs) = IsWriteQuorum p c × IsWriteQuorumOfEach p cs
