@@ -92,6 +92,7 @@ module _ (f : Fleet) where
     activate_keeps = record {
       appointments = appointments;
       branches = i.branches;
+      barriers = λ d ad n s from w is. activate_after.chosen d s ad (i.barriers d ad n s from w is);
       some_value = i.some_value;
       values = λ q w c. sound_after f g activate_after i.appointments q w (i.values q w c) (λ d l live le. (live.appointed, le));
       key = λ d c l ad ac lt m. key_after f g activate_after i.key d c l ad ac lt (i.appointments.latest c ac) m;

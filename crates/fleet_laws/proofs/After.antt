@@ -1,12 +1,13 @@
 -- What is known of a fleet is known of those that come after it.
 use Rattle.std.proofs.Common.{◌≡◌, ℕ, zero, suc, ◌+◌, ◌<◌, ◌≤◌, true, ◌⊎◌, List, [], ◌∷◌, length, refl, ap, sym, ◌∙◌, subst, arith, inl, inr}
 use Rattle.std.proofs.lemmas.Bool.{cases_lt, cases_eq}
-use Rattle.fleet_laws.specs.Logs.{Entry, Agree, epoch_at, last_epoch}
+use Rattle.fleet_laws.specs.Logs.{Entry, Agree, epoch_at, content_at, last_epoch}
+use Rattle.fleet_laws.specs.Logs.Record.{EpochStart, Barrier}
 use Rattle.fleet_laws.specs.Fleets.{Value, Fleet, IsAppointed, IsValueOf}
 use Rattle.fleet_laws.specs.Choice.{IsChosen, MayBeChosen, Live, IsCanonical, IsSafe}
-use Rattle.fleet_laws.specs.Invariant.{IsBranch, Appointments, IsSound, IsCopied, KeepsWhatMayBeChosen}
+use Rattle.fleet_laws.specs.Invariant.{IsBranch, Appointments, IsSound, IsCopied, KeepsWhatMayBeChosen, HasTrueBarriers}
 use Rattle.fleet_laws.specs.Growth.{ComesAfter}
-use Rattle.fleet_laws.proofs.Agreement.{agree_self, agree_sym, agree_trans, agree_less, agree_epoch}
+use Rattle.fleet_laws.proofs.Agreement.{agree_self, agree_sym, agree_trans, agree_less, agree_epoch, agree_content}
 
 pub after_self : (f : Fleet) → ComesAfter f f
 after_self f = record {
@@ -96,7 +97,7 @@ module _ (f g : Fleet) (after : ComesAfter f g) where
 
   -- a history that stays as it was, or goes on with its own entries, is a branch still
   pub branch_after : (e : ℕ) → IsAppointed f e → IsBranch f.histories e
-    → ((n : ℕ) → length (f.history e) < n → n ≤ length (g.history e) → epoch_at (g.history e) n ≡ e) → IsBranch g.histories e
+    → ((n : ℕ) → length (f.history e) < n → n ≤ length (g.history e) → (epoch_at (g.history e) n ≡ e) × (content_at (g.history e) n ≡ EpochStart → ⊥)) → IsBranch g.histories e
   branch_after e a b own =
     let grows : Agree (length (f.history e)) (f.history e) (g.history e) = after.history e a in
     record {
@@ -104,8 +105,14 @@ module _ (f g : Fleet) (after : ComesAfter f g) where
       starts = omega (arith, b.starts, after.start e a);
       within = omega (arith, b.within, after.start e a, grows.right);
       own = λ n from w. elim (cases_lt (length (f.history e)) n) [
-          inl more ↦ own n more w
+          inl more ↦ (own n more w).0
         | inr old ↦ sym (agree_epoch n (length (f.history e)) (f.history e) (g.history e) old grows) ∙ b.own n (omega (arith, from, after.start e a)) old
+        ];
+      marked =
+        ap (content_at (g.history e)) (after.start e a) ∙ (sym (agree_content (f.start e) (length (f.history e)) (f.history e) (g.history e) b.within grows) ∙ b.marked);
+      unmarked = λ n from w is. elim (cases_lt (length (f.history e)) n) [
+          inl more ↦ (own n more w).1 is
+        | inr old ↦ b.unmarked n (omega (arith, from, after.start e a)) old (agree_content n (length (f.history e)) (f.history e) (g.history e) old grows ∙ is)
         ];
       root = elim (b.root) [
           inl one ↦ inl (omega (arith, one, after.start e a))
@@ -118,6 +125,14 @@ module _ (f g : Fleet) (after : ComesAfter f g) where
           })
         ]
     }
+
+  -- Barriers stay true where new ones are
+  pub barriers_after : (e : ℕ) → IsAppointed f e → HasTrueBarriers f e
+    → ((n s : ℕ) → length (f.history e) < n → n ≤ length (g.history e) → content_at (g.history e) n ≡ Barrier s → IsChosen f e s) → HasTrueBarriers g e
+  barriers_after e a b new n s from w is = after.chosen e s a (elim (cases_lt (length (f.history e)) n) [
+      inl more ↦ new n s more w is
+    | inr old ↦ b n s (omega (arith, from, after.start e a)) old (agree_content n (length (f.history e)) (f.history e) (g.history e) old (after.history e a) ∙ is)
+    ])
 
   pub copied_after : (e c : ℕ) (v : Value) → IsAppointed f e → IsCopied f e c v → ((n : ℕ) → Agree n v.log (g.history e) → Agree n v.log (f.history e)) → IsCopied g e c v
   copied_after e c v a k shared = record {

@@ -1,7 +1,7 @@
 -- Two logs that agree to a place.
 use Rattle.std.proofs.Common.{◌≡◌, ℕ, zero, suc, ◌+◌, ◌<◌, ◌≤◌, List, [], ◌∷◌, ◌++◌, length, take, get_or, refl, ap, sym, ◌∙◌, arith, length-append}
 use Rattle.std.proofs.lemmas.List.{take-take, get_or-take, take-append-le, length-take-le}
-use Rattle.fleet_laws.specs.Logs.{Entry, Agree, epoch_at, no_entry}
+use Rattle.fleet_laws.specs.Logs.{Entry, Agree, epoch_at, content_at, no_entry}
 
 pub agree_none : (a b : List Entry) → Agree 0 a b
 agree_none a b = record { left = omega arith; right = omega arith; same = refl }
@@ -36,13 +36,18 @@ agree_append n a b h = record {
   same = sym (take-append-le n a b h)
 }
 
-epoch_of_entry : (a b : List Entry) (n m : ℕ) → m < n → take n a ≡ take n b → get_or a m no_entry ≡ get_or b m no_entry
-epoch_of_entry a b n m h e = sym (get_or-take n a m no_entry h) ∙ (ap (λ x. get_or x m no_entry) e ∙ get_or-take n b m no_entry h)
+entry_at : (a b : List Entry) (n m : ℕ) → m < n → take n a ≡ take n b → get_or a m no_entry ≡ get_or b m no_entry
+entry_at a b n m h e = sym (get_or-take n a m no_entry h) ∙ (ap (λ x. get_or x m no_entry) e ∙ get_or-take n b m no_entry h)
 
 pub agree_epoch : (m n : ℕ) (a b : List Entry) → m ≤ n → Agree n a b → epoch_at a m ≡ epoch_at b m
 unfolding epoch_at
 agree_epoch zero n a b h g = refl
-agree_epoch (suc m) n a b h g = ap (λ x. x.epoch) (epoch_of_entry a b n m h g.same)
+agree_epoch (suc m) n a b h g = ap (λ x. x.epoch) (entry_at a b n m h g.same)
+
+pub agree_content : (m n : ℕ) (a b : List Entry) → m ≤ n → Agree n a b → content_at a m ≡ content_at b m
+unfolding content_at
+agree_content zero n a b h g = refl
+agree_content (suc m) n a b h g = ap (λ x. x.content) (entry_at a b n m h g.same)
 
 pub zero_of : (n : ℕ) → n ≤ 0 → n ≡ 0
 zero_of n h = omega arith

@@ -3,19 +3,22 @@ use Rattle.std.proofs.Common.{◌≡◌, ℕ, zero, suc, ◌+◌, ◌<◌, ◌�
 use Rattle.std.proofs.lemmas.Bool.{cases_lt, cases_eq, both_ways}
 use Rattle.std.proofs.lemmas.List.{length_push}
 use Rattle.fleet_laws.specs.Counting.{IsWriteQuorumOfEach}
-use Rattle.fleet_laws.specs.Logs.{Entry, Record, Agree, epoch_at, last_epoch}
-use Rattle.fleet_laws.specs.Logs.Record.{EpochStart}
+use Rattle.fleet_laws.specs.Logs.{Entry, Record, Agree, epoch_at, content_at, last_epoch}
+use Rattle.fleet_laws.specs.Logs.Record.{EpochStart, Barrier}
 use Rattle.fleet_laws.specs.Fleets.{Value, Fleet, put, IsAppointed, IsValueOf}
 use Rattle.fleet_laws.specs.Choice.{Chosen, Live, MayBeChosen, reaches, frozen, may_reach, configurations_of}
-use Rattle.fleet_laws.specs.Invariant.{IsBranch, IsSurveyed, IsCopied, IsBefore, IsSound, Appointments, Invariant}
+use Rattle.fleet_laws.specs.Invariant.{HasTrueBarriers, IsBranch, IsSurveyed, IsCopied, IsBefore, IsSound, Appointments, Invariant}
 use Rattle.fleet_laws.specs.Moves.{Appoints, appointed}
 use Rattle.fleet_laws.specs.Growth.{ComesAfter}
 use Rattle.fleet_laws.proofs.Counts.{quorums_more}
 use Rattle.fleet_laws.proofs.Agreement.{agree_self, agree_sym, agree_trans, agree_less, agree_append}
-use Rattle.fleet_laws.proofs.Growing.{epoch_behind}
-use Rattle.fleet_laws.proofs.After.{history_after, sound_after, branch_after, key_after, copied_after}
+use Rattle.fleet_laws.proofs.Growing.{epoch_behind, content_behind}
+use Rattle.fleet_laws.proofs.After.{history_after, sound_after, branch_after, barriers_after, key_after, copied_after}
 use Rattle.fleet_laws.proofs.Puts.{all_one, put_same, put_other, put_split, put_both, frozen_role, frozen_above, is_frozen, may_before}
 use Rattle.fleet_laws.proofs.Inheriting.{primary_value, has_what_may_be_chosen}
+
+pub start_is_no_barrier : (s : ℕ) → EpochStart ≡ Barrier s → ⊥
+start_is_no_barrier s h = cc
 
 module _ (f : Fleet) (e p : ℕ) (v : Value) (members : List ℕ) (i : Invariant f) (a : Appoints f e p v) where
   abbrev g : Fleet
@@ -84,6 +87,9 @@ module _ (f : Fleet) (e p : ℕ) (v : Value) (members : List ℕ) (i : Invariant
   new_own : (n : ℕ) → suc (length v.log) ≤ n → n ≤ length started → epoch_at started n ≡ e
   new_own n from w = epoch_behind v.log (record { epoch = e; content = EpochStart } ∷ []) e n (all_one (λ x. x.epoch ≡ e) (record { epoch = e; content = EpochStart }) refl) from w
 
+  new_content : (n : ℕ) → suc (length v.log) ≤ n → n ≤ length started → content_at started n ≡ EpochStart
+  new_content n from w = content_behind v.log (record { epoch = e; content = EpochStart } ∷ []) (λ x. x ≡ EpochStart) n (all_one (λ x. x.content ≡ EpochStart) (record { epoch = e; content = EpochStart }) refl) from w
+
   new_root : (suc (length v.log) ≡ 1) ⊎ ((d : ℕ) × record {
     appointed : g.appointed d ≡ true;
     below : d < e;
@@ -110,6 +116,8 @@ module _ (f : Fleet) (e p : ℕ) (v : Value) (members : List ℕ) (i : Invariant
       starts = omega (arith, s);
       within = omega (arith, s, ap length h, length_started);
       own = λ n from w. ap (λ x. epoch_at x n) h ∙ new_own n (omega (arith, from, s)) (omega (arith, w, ap length h));
+      marked = ap (content_at (g.history e)) s ∙ (ap (λ x. content_at x (suc (length v.log))) h ∙ new_content (suc (length v.log)) (omega arith) (omega (arith, length_started)));
+      unmarked = λ n from w is. omega (arith, from, s, w, ap length h, length_started);
       root = elim (new_root) [
           inl x ↦ inl (omega (arith, x, s))
         | inr x ↦ inr (x.0, record {
@@ -124,6 +132,14 @@ module _ (f : Fleet) (e p : ℕ) (v : Value) (members : List ℕ) (i : Invariant
   branches d h = elim (old_or_new d h) [
       inl is ↦ subst (λ x. IsBranch g.histories x) (sym is) new_branch
     | inr ad ↦ branch_after f g appoint_after d ad (i.branches d ad) (λ n past w. absurd (omega (arith, past, w, ap length (same_history d ad))))
+    ]
+
+  barriers : (d : ℕ) → IsAppointed g d → HasTrueBarriers g d
+  barriers d h n s from w is = elim (old_or_new d h) [
+      inl new ↦ (
+      let t : g.history d ≡ started = history_of_new d new in
+      absurd (start_is_no_barrier s (sym (new_content n (omega (arith, from, start_of_new d new)) (omega (arith, w, ap length t))) ∙ (ap (λ x. content_at x n) (sym t) ∙ is))))
+    | inr ad ↦ barriers_after f g appoint_after d ad (i.barriers d ad) (λ m x past in_ eq. absurd (omega (arith, past, in_, ap length (same_history d ad)))) n s from w is
     ]
 
   active_appointed : IsAppointed f f.active
@@ -210,6 +226,7 @@ module _ (f : Fleet) (e p : ℕ) (v : Value) (members : List ℕ) (i : Invariant
   appoint_keeps = record {
     appointments = appointments;
     branches = branches;
+    barriers = barriers;
     some_value = i.some_value;
     values = λ q w c. sound_after f g appoint_after i.appointments q w (i.values q w c) (back q);
     key = key;

@@ -1,14 +1,15 @@
 -- The first appointment keeps the invariant.
 use Rattle.std.proofs.Common.{◌≡◌, ℕ, zero, suc, ◌+◌, ◌<◌, ◌≤◌, Bool, true, false, ◌⊎◌, List, [], ◌∷◌, length, refl, ap, sym, ◌∙◌, subst, arith, inl, inr}
 use Rattle.std.proofs.lemmas.Bool.{cases_lt, both_ways}
-use Rattle.fleet_laws.specs.Logs.{Entry, Record, Agree, epoch_at}
+use Rattle.fleet_laws.specs.Logs.{Entry, Record, Agree, epoch_at, content_at}
 use Rattle.fleet_laws.specs.Logs.Record.{EpochStart}
 use Rattle.fleet_laws.specs.Fleets.{Value, Fleet, put, IsAppointed, IsValueOf}
 use Rattle.fleet_laws.specs.Choice.{Live}
-use Rattle.fleet_laws.specs.Invariant.{IsBranch, IsSurveyed, IsCopied, Appointments, Invariant}
+use Rattle.fleet_laws.specs.Invariant.{HasTrueBarriers, IsBranch, IsSurveyed, IsCopied, Appointments, Invariant}
 use Rattle.fleet_laws.specs.Moves.{Boots, booted}
 use Rattle.fleet_laws.specs.Growth.{ComesAfter}
-use Rattle.fleet_laws.proofs.Growing.{epoch_behind}
+use Rattle.fleet_laws.proofs.Growing.{epoch_behind, content_behind}
+use Rattle.fleet_laws.proofs.Appointing.{start_is_no_barrier}
 use Rattle.fleet_laws.proofs.After.{sound_after}
 use Rattle.fleet_laws.proofs.Puts.{all_one, put_same, put_split, put_both}
 
@@ -38,6 +39,14 @@ module _ (f : Fleet) (e p : ℕ) (members : List ℕ) (i : Invariant f) (a : Boo
   only_activated : (d : ℕ) → g.activated d ≡ true → d ≡ e
   only_activated d h = elim (put_split (λ t. t ≡ true) e true f.activated d h) [ inl x ↦ x.0 | inr x ↦ nothing d (i.appointments.activated d x.1) ]
 
+  first_content : (n : ℕ) → 1 ≤ n → n ≤ 1 → content_at (record { epoch = e; content = EpochStart } ∷ []) n ≡ EpochStart
+  first_content n from w = content_behind [] (record { epoch = e; content = EpochStart } ∷ []) (λ x. x ≡ EpochStart) n (all_one (λ x. x.content ≡ EpochStart) (record { epoch = e; content = EpochStart }) refl) from w
+
+  barriers : (d : ℕ) → IsAppointed g d → HasTrueBarriers g d
+  barriers d hd n s from w is =
+    let t : g.history d ≡ record { epoch = e; content = EpochStart } ∷ [] = put_same e (record { epoch = e; content = EpochStart } ∷ []) f.history d (only d hd) in
+    absurd (start_is_no_barrier s (sym (first_content n (omega (arith, from, put_same e 1 f.start d (only d hd))) (omega (arith, w, ap length t))) ∙ (ap (λ x. content_at x n) (sym t) ∙ is)))
+
   branch : IsBranch g.histories e
   branch =
     let s : g.start e ≡ 1 = put_same e 1 f.start e refl in
@@ -47,6 +56,8 @@ module _ (f : Fleet) (e p : ℕ) (members : List ℕ) (i : Invariant f) (a : Boo
       starts = omega (arith, s);
       within = omega (arith, s, ap length h);
       own = λ n from w. ap (λ x. epoch_at x n) h ∙ epoch_behind [] (record { epoch = e; content = EpochStart } ∷ []) e n (all_one (λ x. x.epoch ≡ e) (record { epoch = e; content = EpochStart }) refl) (omega (arith, from, s)) (omega (arith, w, ap length h));
+      marked = ap (content_at (g.history e)) s ∙ (ap (λ x. content_at x 1) h ∙ first_content 1 (omega arith) (omega arith));
+      unmarked = λ n from w is. omega (arith, from, s, w, ap length h);
       root = inl s
     }
 
@@ -82,6 +93,7 @@ module _ (f : Fleet) (e p : ℕ) (members : List ℕ) (i : Invariant f) (a : Boo
   pub boot_keeps : Invariant g
   boot_keeps = record {
     appointments = appointments;
+    barriers = barriers;
     branches = λ d h. subst (λ x. IsBranch g.histories x) (sym (only d h)) branch;
     some_value = i.some_value;
     values = λ q w c. sound_after f g boot_after i.appointments q w (i.values q w c)

@@ -98,6 +98,7 @@ module _ (f : Fleet) (r e n head p : ℕ) where
     copy_keeps = record {
       appointments = i.appointments;
       branches = i.branches;
+      barriers = λ d ad n s from w is. copy_after.chosen d s ad (i.barriers d ad n s from w is);
       some_value = i.some_value;
       values = λ q w c. sound_after f (copied f r e p) copy_after i.appointments q w (i.values q w c) (λ d l live le. (live.appointed, le));
       key = λ d c l ad ac lt m. key_after f (copied f r e p) copy_after i.key d c l ad ac lt (i.appointments.latest c ac) m;

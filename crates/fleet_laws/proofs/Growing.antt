@@ -3,21 +3,31 @@ use Rattle.std.proofs.Common.{◌≡◌, ℕ, zero, suc, ◌+◌, ◌-◌, ◌<�
 use Rattle.std.specs.Prelude.{All}
 use Rattle.std.proofs.lemmas.Bool.{cases_lt, cases_eq}
 use Rattle.std.proofs.lemmas.List.{get_or-append_right}
-use Rattle.fleet_laws.specs.Logs.{Entry, Agree, epoch_at, no_entry}
+use Rattle.fleet_laws.specs.Logs.{Entry, Record, Agree, epoch_at, content_at, no_entry}
+use Rattle.fleet_laws.specs.Logs.Record.{EpochStart, Barrier}
+use Rattle.fleet_laws.specs.Choice.{IsChosen}
 use Rattle.fleet_laws.specs.Fleets.{Value, Fleet, put, IsAppointed, IsValueOf}
 use Rattle.fleet_laws.specs.Invariant.{IsSurveyed, Appointments, Invariant}
 use Rattle.fleet_laws.specs.Moves.{Grows, grown}
 use Rattle.fleet_laws.specs.Growth.{ComesAfter}
 use Rattle.fleet_laws.proofs.Agreement.{agree_none, agree_self, agree_sym, agree_trans, agree_epoch, agree_append}
 use Rattle.fleet_laws.proofs.Tree.{agrees_with_history}
-use Rattle.fleet_laws.proofs.After.{sound_after, branch_after, key_after, copied_after}
+use Rattle.fleet_laws.proofs.After.{sound_after, branch_after, barriers_after, key_after, copied_after}
 use Rattle.fleet_laws.proofs.Puts.{put_same, put_other, put_both}
+
+-- an entry that was added is one of those that were to be
+added : (a b : List Entry) (P : Entry → Type 0) (n : ℕ) → All P b → length a ≤ n → n < length (a ++ b) → P (get_or (a ++ b) n no_entry)
+added a b P n all past w = subst P (sym (get_or-append_right a b (length a) n no_entry refl past)) (all (n - length a) no_entry (omega (arith, length-append a b)))
+
+pub content_behind : (a b : List Entry) (P : Record → Type 0) (n : ℕ) → All (λ x. P x.content) b → length a < n → n ≤ length (a ++ b) → P (content_at (a ++ b) n)
+unfolding content_at
+content_behind a b P zero all past w = absurd (omega arith)
+content_behind a b P (suc n) all past w = added a b (λ x. P x.content) n all (omega arith) w
 
 pub epoch_behind : (a b : List Entry) (e n : ℕ) → All (λ x. x.epoch ≡ e) b → length a < n → n ≤ length (a ++ b) → epoch_at (a ++ b) n ≡ e
 unfolding epoch_at
 epoch_behind a b e zero own past w = absurd (omega arith)
-epoch_behind a b e (suc n) own past w =
-  ap (λ x. x.epoch) (get_or-append_right a b (length a) n no_entry refl (omega arith)) ∙ own (n - length a) no_entry (omega (arith, length-append a b))
+epoch_behind a b e (suc n) own past w = added a b (λ x. x.epoch ≡ e) n own (omega arith) w
 
 module _ (f : Fleet) (r e : ℕ) (entries : List Entry) where
   longer : (d : ℕ) → Agree (length (f.history d)) (f.history d) ((grown f e entries).history d)
@@ -39,6 +49,12 @@ module _ (f : Fleet) (r e : ℕ) (entries : List Entry) where
     own : (d n : ℕ) → length (f.history d) < n → n ≤ length ((grown f e entries).history d) → epoch_at ((grown f e entries).history d) n ≡ d
     own d n past = put_both (λ x. n ≤ length x → epoch_at x n ≡ d) e (f.history e ++ entries) f.history d
       (λ is w. epoch_behind (f.history e) entries e n a.own (subst (λ y. length (f.history y) < n) is past) w ∙ sym is)
+      (λ ne w. absurd (omega (arith, past, w)))
+
+    own_content : (P : ℕ → Record → Type 0) → All (λ x. P e x.content) entries → (d n : ℕ) → length (f.history d) < n → n ≤ length ((grown f e entries).history d)
+      → P d (content_at ((grown f e entries).history d) n)
+    own_content P all d n past = put_both (λ x. n ≤ length x → P d (content_at x n)) e (f.history e ++ entries) f.history d
+      (λ is w. subst (λ y. P y (content_at (f.history e ++ entries) n)) (sym is) (content_behind (f.history e) entries (P e) n all (subst (λ y. length (f.history y) < n) is past) w))
       (λ ne w. absurd (omega (arith, past, w)))
 
     old_shared : (d n : ℕ) (w : Value) (q : ℕ) → IsValueOf f q w → IsAppointed f d → Agree n w.log ((grown f e entries).history d) → Agree n w.log (f.history d)
@@ -69,7 +85,10 @@ module _ (f : Fleet) (r e : ℕ) (entries : List Entry) where
     pub grow_keeps : Invariant (grown f e entries)
     grow_keeps = record {
       appointments = appointments;
-      branches = λ d ad. branch_after f (grown f e entries) grow_after d ad (i.branches d ad) (own d);
+      branches = λ d ad. branch_after f (grown f e entries) grow_after d ad (i.branches d ad)
+        (λ n past w. (own d n past w, own_content (λ y x. x ≡ EpochStart → ⊥) a.unmarked d n past w));
+      barriers = λ d ad. barriers_after f (grown f e entries) grow_after d ad (i.barriers d ad)
+        (λ n s past w. own_content (λ y x. x ≡ Barrier s → IsChosen f y s) (λ k x lt. a.barriers k x lt s) d n past w);
       some_value = i.some_value;
       values = λ q w c. sound_after f (grown f e entries) grow_after i.appointments q w (i.values q w c) (λ d l live le. (live.appointed, le));
       key = λ d c l ad ac lt m. key_after f (grown f e entries) grow_after i.key d c l ad ac lt (i.appointments.latest c ac) m;

@@ -51,6 +51,7 @@ pub empty_invariant : Invariant empty_fleet
 empty_invariant = record {
   appointments = empty_appointments;
   branches = λ e h. no_epoch h;
+  barriers = λ e h. no_epoch h;
   some_value = λ r. (empty_value, first_member empty_value []);
   values = λ r v c. empty_sound r v (only_member empty_value v c);
   key = λ d e l h a lt m. no_epoch h;

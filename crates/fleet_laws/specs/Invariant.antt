@@ -1,16 +1,18 @@
 -- What holds of the fleet after every run.
 use Rattle.std.specs.Prelude.{◌≡◌, ℕ, ◌<◌, ◌≤◌, Bool, true, ◌⊎◌, List, length}
-use Rattle.fleet_laws.specs.Logs.{Entry, Record, Agree, epoch_at, last_epoch}
-use Rattle.fleet_laws.specs.Logs.Record.{Barrier}
+use Rattle.fleet_laws.specs.Logs.{Entry, Record, Agree, epoch_at, content_at, last_epoch}
+use Rattle.fleet_laws.specs.Logs.Record.{EpochStart, Barrier}
 use Rattle.fleet_laws.specs.Fleets.{Value, Histories, Configurations, Fleet, IsAppointed, IsValueOf}
 use Rattle.fleet_laws.specs.Choice.{Chosen, IsChosen, MayBeChosen, Live, IsCanonical, IsSafe}
 
--- the history of e is a branch of the tree: from its EpochStart on it has e's own entries, and below that it is the history of an earlier epoch
+-- the history of e is a branch of the tree: from its one EpochStart of e on it has e's own entries, and below that it is the history of an earlier epoch
 pub record IsBranch (h : Histories) (e : ℕ) : Type 0 where
   pub positive : 1 ≤ e
   pub starts : 1 ≤ h.start e
   pub within : h.start e ≤ length (h.history e)
   pub own : (n : ℕ) → h.start e ≤ n → n ≤ length (h.history e) → epoch_at (h.history e) n ≡ e
+  pub marked : content_at (h.history e) (h.start e) ≡ EpochStart
+  pub unmarked : (n : ℕ) → h.start e < n → n ≤ length (h.history e) → content_at (h.history e) n ≡ EpochStart → ⊥
   pub root : (h.start e ≡ 1) ⊎ ((d : ℕ) × record {
     appointed : h.appointed d ≡ true;
     below : d < e;
@@ -64,9 +66,14 @@ pub record IsCopied (f : Fleet) (e c : ℕ) (v : Value) : Type 0 where
   pub stable : v.stable ≤ c
   pub shared : (n : ℕ) → Agree n v.log (f.history e) → n ≤ c
 
+-- what a Barrier of epoch e names is chosen at e
+abbrev pub HasTrueBarriers : Fleet → ℕ → Type 0
+HasTrueBarriers f e = (n s : ℕ) → f.start e ≤ n → n ≤ length (f.history e) → content_at (f.history e) n ≡ Barrier s → IsChosen f e s
+
 pub record Invariant (f : Fleet) : Type 0 where
   pub appointments : Appointments f.histories f.configurations f.acknowledged
   pub branches : (e : ℕ) → IsAppointed f e → IsBranch f.histories e
+  pub barriers : (e : ℕ) → IsAppointed f e → HasTrueBarriers f e
   pub some_value : (r : ℕ) → (v : Value) × IsValueOf f r v
   pub values : (r : ℕ) (v : Value) → IsValueOf f r v → IsSound f r v
   pub key : KeepsWhatMayBeChosen f

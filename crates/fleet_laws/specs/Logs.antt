@@ -1,5 +1,5 @@
 -- Logs, and the places to which two of them are one.
-use Rattle.std.specs.Prelude.{◌≡◌, ℕ, zero, suc, ◌≤◌, List, length, get_or, take}
+use Rattle.std.specs.Prelude.{◌≡◌, ℕ, zero, suc, ◌<◌, ◌≤◌, ◌↔◌, List, length, get_or, take}
 
 -- what an entry holds. The kernel knows what a Barrier names, and of all else only that it is there
 pub data Record : Type 0 where
@@ -21,6 +21,11 @@ unfoldable pub epoch_at : List Entry → ℕ → ℕ
 epoch_at log zero = 0
 epoch_at log (suc n) = (get_or log n no_entry).epoch
 
+-- the record at a place of a log
+unfoldable pub content_at : List Entry → ℕ → Record
+content_at log zero = Other 0
+content_at log (suc n) = (get_or log n no_entry).content
+
 -- the epoch of the last entry
 abbrev pub last_epoch : List Entry → ℕ
 last_epoch log = epoch_at log (length log)
@@ -30,6 +35,10 @@ pub record Agree (n : ℕ) (a b : List Entry) : Type 0 where
   pub left : n ≤ length a
   pub right : n ≤ length b
   pub same : take n a ≡ take n b
+
+-- an EpochStart stands exactly where the epoch rises
+abbrev pub IsMarked : List Entry → Type 0
+IsMarked log = (n : ℕ) → n < length log → (content_at log (suc n) ≡ EpochStart) ↔ (epoch_at log n < epoch_at log (suc n))
 
 -- n is the last place to which the two logs agree
 pub record LastAgreed (n : ℕ) (a b : List Entry) : Type 0 where

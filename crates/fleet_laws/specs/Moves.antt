@@ -2,7 +2,7 @@
 use Rattle.std.specs.Prelude.{◌≡◌, ℕ, suc, ◌+◌, ◌<◌, ◌≤◌, max, Bool, true, false, ◌⊎◌, List, [], ◌∷◌, ◌++◌, length, take, All}
 use Rattle.fleet_laws.specs.Counting.{IsReadQuorum}
 use Rattle.fleet_laws.specs.Logs.{Entry, Record, Agree, LastAgreed, epoch_at, last_epoch}
-use Rattle.fleet_laws.specs.Logs.Record.{EpochStart}
+use Rattle.fleet_laws.specs.Logs.Record.{EpochStart, Barrier}
 use Rattle.fleet_laws.specs.Fleets.{Value, Fleet, put, IsAppointed, IsValueOf, empty_fleet}
 use Rattle.fleet_laws.specs.Choice.{Chosen, IsChosen, IsSafe}
 
@@ -102,11 +102,13 @@ pub record Acknowledges (f : Fleet) (r e l : ℕ) (v : Value) : Type 0 where
 abbrev pub acknowledged : Fleet → ℕ → ℕ → ℕ → Fleet
 acknowledged f r e l = record f { acknowledged = put r (put e (max (f.acknowledged r e) l) (f.acknowledged r)) f.acknowledged }
 
--- a primary of e logs entries of e: its history grows
+-- a primary of e logs entries of e, no EpochStart among them, and Barriers only of what is chosen: its history grows
 pub record Grows (f : Fleet) (r e : ℕ) (entries : List Entry) : Type 0 where
   pub appointed : IsAppointed f e
   pub role : f.role r ≡ e
   pub own : All (λ x. x.epoch ≡ e) entries
+  pub unmarked : All (λ x. x.content ≡ EpochStart → ⊥) entries
+  pub barriers : All (λ x. (s : ℕ) → x.content ≡ Barrier s → IsChosen f e s) entries
 
 abbrev pub grown : Fleet → ℕ → List Entry → Fleet
 grown f e entries = record f { histories = record f.histories { history = put e (f.history e ++ entries) f.history } }
