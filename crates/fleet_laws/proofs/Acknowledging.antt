@@ -101,7 +101,7 @@ module _ (f : Fleet) (r e l : ℕ) (v : Value) (i : Invariant f) (a : Acknowledg
   acknowledge_keeps = record {
     appointments = appointments;
     branches = i.branches;
-    barriers = λ d ad n s from w is. acknowledge_after.chosen d s ad (i.barriers d ad n s from w is);
+    barriers = λ d ad n s from w is. let b = i.barriers d ad n s from w is in (b.0, acknowledge_after.chosen d s ad b.1);
     some_value = i.some_value;
     values = λ q w c. sound_from f (acknowledged f r e l) acknowledge_after q w (i.values q w c) (holds q w c);
     key = λ d c m ad ac lt x. key_after f (acknowledged f r e l) acknowledge_after i.key d c m ad ac lt (i.appointments.latest c ac) x;

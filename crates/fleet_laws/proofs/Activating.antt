@@ -7,16 +7,9 @@ use Rattle.fleet_laws.specs.Choice.{Chosen, reaches, configurations_of}
 use Rattle.fleet_laws.specs.Invariant.{IsSurveyed, IsBefore, Appointments, Invariant}
 use Rattle.fleet_laws.specs.Moves.{Activates, activated}
 use Rattle.fleet_laws.specs.Growth.{ComesAfter}
+use Rattle.fleet_laws.proofs.Use.{own_quorum}
 use Rattle.fleet_laws.proofs.After.{after_self, sound_after, key_after, copied_after}
 use Rattle.fleet_laws.proofs.Puts.{put_same, put_other, put_split, put_both}
-
-each_step : (p : ℕ → Bool) (b : Bool) (now before : List ℕ) → IsWriteQuorumOfEach p (cond b (now ∷ []) (before ∷ now ∷ [])) → IsWriteQuorum p now
-each_step p true now before w = w.0
-each_step p false now before w = w.1.0
-
--- a write quorum of each configuration of an epoch is one of its own
-pub own_quorum : (p : ℕ → Bool) (c : Configurations) (e : ℕ) → IsWriteQuorumOfEach p (configurations_of c e) → IsWriteQuorum p (c.current e)
-own_quorum p c e w = each_step p (c.activated e) (c.current e) (c.previous e) w
 
 module _ (f : Fleet) where
   abbrev g : Fleet
@@ -92,7 +85,7 @@ module _ (f : Fleet) where
     activate_keeps = record {
       appointments = appointments;
       branches = i.branches;
-      barriers = λ d ad n s from w is. activate_after.chosen d s ad (i.barriers d ad n s from w is);
+      barriers = λ d ad n s from w is. let b = i.barriers d ad n s from w is in (b.0, activate_after.chosen d s ad b.1);
       some_value = i.some_value;
       values = λ q w c. sound_after f g activate_after i.appointments q w (i.values q w c) (λ d l live le. (live.appointed, le));
       key = λ d c l ad ac lt m. key_after f g activate_after i.key d c l ad ac lt (i.appointments.latest c ac) m;

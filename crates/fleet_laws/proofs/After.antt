@@ -128,11 +128,13 @@ module _ (f g : Fleet) (after : ComesAfter f g) where
 
   -- Barriers stay true where new ones are
   pub barriers_after : (e : ℕ) → IsAppointed f e → HasTrueBarriers f e
-    → ((n s : ℕ) → length (f.history e) < n → n ≤ length (g.history e) → content_at (g.history e) n ≡ Barrier s → IsChosen f e s) → HasTrueBarriers g e
-  barriers_after e a b new n s from w is = after.chosen e s a (elim (cases_lt (length (f.history e)) n) [
-      inl more ↦ new n s more w is
-    | inr old ↦ b n s (omega (arith, from, after.start e a)) old (agree_content n (length (f.history e)) (f.history e) (g.history e) old (after.history e a) ∙ is)
-    ])
+    → ((n s : ℕ) → length (f.history e) < n → n ≤ length (g.history e) → content_at (g.history e) n ≡ Barrier s → (s < n) × IsChosen f e s) → HasTrueBarriers g e
+  barriers_after e a b new n s from w is =
+    let old : (s < n) × IsChosen f e s = elim (cases_lt (length (f.history e)) n) [
+        inl more ↦ new n s more w is
+      | inr old ↦ b n s (omega (arith, from, after.start e a)) old (agree_content n (length (f.history e)) (f.history e) (g.history e) old (after.history e a) ∙ is)
+      ] in
+    (old.0, after.chosen e s a old.1)
 
   pub copied_after : (e c : ℕ) (v : Value) → IsAppointed f e → IsCopied f e c v → ((n : ℕ) → Agree n v.log (g.history e) → Agree n v.log (f.history e)) → IsCopied g e c v
   copied_after e c v a k shared = record {

@@ -60,7 +60,7 @@ module _ (f : Fleet) (e r : ℕ) (v : Value) where
     answer_keeps = record {
       appointments = i.appointments;
       branches = i.branches;
-      barriers = λ d ad n s from w is. answer_after.chosen d s ad (i.barriers d ad n s from w is);
+      barriers = λ d ad n s from w is. let b = i.barriers d ad n s from w is in (b.0, answer_after.chosen d s ad b.1);
       some_value = i.some_value;
       values = λ q w c. sound_after f (told f e r v) answer_after i.appointments q w (i.values q w c) (λ d l live le. (live.appointed, le));
       key = λ d c l ad ac lt m. key_after f (told f e r v) answer_after i.key d c l ad ac lt (i.appointments.latest c ac) m;

@@ -146,7 +146,7 @@ module _ (f : Fleet) (r : ℕ) (values : List Value) (role copying : ℕ) (i : I
   change_keeps = record {
     appointments = i.appointments;
     branches = i.branches;
-    barriers = λ d ad n s from w is. change_after.chosen d s ad (i.barriers d ad n s from w is);
+    barriers = λ d ad n s from w is. let b = i.barriers d ad n s from w is in (b.0, change_after.chosen d s ad b.1);
     some_value = some_value;
     values = λ q w c. sound_after f g change_after i.appointments q w (sound q w c) (λ d l live le. (live.appointed, le));
     key = λ d c l ad ac lt m. key_after f g change_after i.key d c l ad ac lt (i.appointments.latest c ac) m;

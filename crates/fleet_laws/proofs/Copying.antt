@@ -37,7 +37,7 @@ module _ (f : Fleet) (r e n head p : ℕ) where
 
   module _ (i : Invariant f) (a : Copies f r e n head p) where
     -- the two logs part below the head of the one that is sent
-    part_below : (v : Value) → IsValueOf f r v → v.stable < head
+    pub part_below : (v : Value) → IsValueOf f r v → v.stable < head
     part_below v c =
       let sound : IsSound f r v = i.values r v c in
       elim (a.full v c v.stable (stable_agrees f i r e n v c a.appointed (a.fence v c) a.within (a.stable v c))) [
@@ -45,7 +45,7 @@ module _ (f : Fleet) (r e n head p : ℕ) where
         | inr x ↦ absurd (omega (arith, x, sound.head, sound.base))
         ]
 
-    shared : (v : Value) → IsValueOf f r v → (m : ℕ) → Agree m v.log (f.history e) → m ≤ p
+    pub shared : (v : Value) → IsValueOf f r v → (m : ℕ) → Agree m v.log (f.history e) → m ≤ p
     shared v c m g =
       let sound : IsSound f r v = i.values r v c in
       elim (cases_lt n m) [
@@ -98,7 +98,7 @@ module _ (f : Fleet) (r e n head p : ℕ) where
     copy_keeps = record {
       appointments = i.appointments;
       branches = i.branches;
-      barriers = λ d ad n s from w is. copy_after.chosen d s ad (i.barriers d ad n s from w is);
+      barriers = λ d ad n s from w is. let b = i.barriers d ad n s from w is in (b.0, copy_after.chosen d s ad b.1);
       some_value = i.some_value;
       values = λ q w c. sound_after f (copied f r e p) copy_after i.appointments q w (i.values q w c) (λ d l live le. (live.appointed, le));
       key = λ d c l ad ac lt m. key_after f (copied f r e p) copy_after i.key d c l ad ac lt (i.appointments.latest c ac) m;

@@ -13,6 +13,7 @@ use Rattle.fleet_laws.specs.Growth.{ComesAfter}
 use Rattle.fleet_laws.proofs.Agreement.{agree_none, agree_self, agree_sym, agree_trans, agree_epoch, agree_append}
 use Rattle.fleet_laws.proofs.Tree.{agrees_with_history}
 use Rattle.fleet_laws.proofs.After.{sound_after, branch_after, barriers_after, key_after, copied_after}
+use Rattle.fleet_laws.proofs.Use.{chosen_within}
 use Rattle.fleet_laws.proofs.Puts.{put_same, put_other, put_both}
 
 -- an entry that was added is one of those that were to be
@@ -88,7 +89,9 @@ module _ (f : Fleet) (r e : ℕ) (entries : List Entry) where
       branches = λ d ad. branch_after f (grown f e entries) grow_after d ad (i.branches d ad)
         (λ n past w. (own d n past w, own_content (λ y x. x ≡ EpochStart → ⊥) a.unmarked d n past w));
       barriers = λ d ad. barriers_after f (grown f e entries) grow_after d ad (i.barriers d ad)
-        (λ n s past w. own_content (λ y x. x ≡ Barrier s → IsChosen f y s) (λ k x lt. a.barriers k x lt s) d n past w);
+        (λ n s past w is.
+          let c : IsChosen f d s = own_content (λ y x. x ≡ Barrier s → IsChosen f y s) (λ k x lt. a.barriers k x lt s) d n past w is in
+          (omega (arith, chosen_within f i d s ad c, past), c));
       some_value = i.some_value;
       values = λ q w c. sound_after f (grown f e entries) grow_after i.appointments q w (i.values q w c) (λ d l live le. (live.appointed, le));
       key = λ d c l ad ac lt m. key_after f (grown f e entries) grow_after i.key d c l ad ac lt (i.appointments.latest c ac) m;

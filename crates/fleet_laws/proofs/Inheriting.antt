@@ -2,7 +2,7 @@
 use Rattle.std.proofs.Common.{◌≡◌, ℕ, zero, suc, ◌+◌, ◌<◌, ◌≤◌, Bool, true, false, cond, ◌⊎◌, List, [], ◌∷◌, length, refl, ap, sym, ◌∙◌, subst, arith, inl, inr}
 use Rattle.std.specs.Prelude.{Contains}
 use Rattle.std.proofs.lemmas.Bool.{cases_lt, cases_eq, cases_order, cases_Bool, both_ways}
-use Rattle.fleet_laws.specs.Quorum.{write_quorum, read_quorum}
+use Rattle.rc_base.specs.Quorum.{write_quorum, read_quorum}
 use Rattle.fleet_laws.specs.Counting.{count, IsWriteQuorum, IsReadQuorum, IsWriteQuorumOfEach}
 use Rattle.fleet_laws.specs.Logs.{Agree, epoch_at, last_epoch}
 use Rattle.fleet_laws.specs.Fleets.{Value, Fleet, Configurations, IsAppointed, IsValueOf}
@@ -13,8 +13,7 @@ use Rattle.fleet_laws.proofs.Counts.{meet}
 use Rattle.fleet_laws.proofs.Agreement.{agree_sym, agree_trans, agree_less, agree_epoch}
 use Rattle.fleet_laws.proofs.Tree.{epochs_rise, past_start, agrees_with_history}
 use Rattle.fleet_laws.proofs.Puts.{only_member, first_member, is_frozen, may_cases}
-use Rattle.fleet_laws.proofs.Use.{chosen_may}
-use Rattle.fleet_laws.proofs.Activating.{own_quorum}
+use Rattle.fleet_laws.proofs.Use.{chosen_may, own_quorum}
 
 -- a write quorum and a read quorum of one configuration share a member
 pub quorums_share : (p q : ℕ → Bool) (c : List ℕ) → IsWriteQuorum p c → IsReadQuorum q c → (m : ℕ) × Contains c m × (p m ≡ true) × (q m ≡ true)

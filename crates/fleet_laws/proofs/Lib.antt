@@ -15,3 +15,9 @@ pub mod Inheriting
 pub mod Appointing
 pub mod Booting
 pub mod Runs
+pub mod Numbering
+pub mod Prefixes
+pub mod Derived
+pub mod Ordering
+pub mod Running
+pub mod Copies

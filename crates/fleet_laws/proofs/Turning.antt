@@ -25,7 +25,7 @@ module _ (f : Fleet) (i : Invariant f) where
     (subst (λ x. Agree x (take m (f.history e)) (f.history e)) (sym (length-take-le m (f.history e) w)) (agree_take m m (f.history e) (omega arith) w))
 
   -- where the epochs are the same at the end of the log, the history goes on from it
-  goes_on : (r e m : ℕ) (v : Value) → IsSound f r v → IsAppointed f e → length v.log ≤ m → m ≤ length (f.history e) → last_epoch v.log ≡ epoch_at (f.history e) (length v.log)
+  pub goes_on : (r e m : ℕ) (v : Value) → IsSound f r v → IsAppointed f e → length v.log ≤ m → m ≤ length (f.history e) → last_epoch v.log ≡ epoch_at (f.history e) (length v.log)
     → Agree (length v.log) v.log (take m (f.history e))
   goes_on r e m v s a le w is = agree_trans
     (same_epoch_agree f.histories i.branches v.log (f.history e) s.canonical (history_canonical f.histories i.branches e a) (length v.log) (omega arith) (omega arith) is)
@@ -91,7 +91,7 @@ module _ (f : Fleet) (i : Invariant f) where
     }
 
   -- the position of a full copy in progress, at the epoch that it is of
-  copy_of : (r e : ℕ) → 1 ≤ e → f.copying r ≡ e → IsAppointed f e × ((v : Value) → IsValueOf f r v → IsCopied f e (f.copy_at r) v)
+  pub copy_of : (r e : ℕ) → 1 ≤ e → f.copying r ≡ e → IsAppointed f e × ((v : Value) → IsValueOf f r v → IsCopied f e (f.copy_at r) v)
   copy_of r e one is =
     let k = i.copies r (omega (arith, is, one)) in
     (subst (λ x. IsAppointed f x) is k.0, λ v c. subst (λ x. IsCopied f x (f.copy_at r) v) is (k.1 v c))

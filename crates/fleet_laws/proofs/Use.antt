@@ -1,13 +1,14 @@
 -- What the invariant says of one fleet.
-use Rattle.std.proofs.Common.{◌≡◌, ℕ, zero, suc, ◌+◌, ◌<◌, ◌≤◌, Bool, true, ◌⊎◌, List, [], ◌∷◌, length, take, refl, ap, sym, ◌∙◌, subst, arith, inl, inr}
+use Rattle.std.proofs.Common.{◌≡◌, ℕ, zero, suc, ◌+◌, ◌<◌, ◌≤◌, Bool, true, false, cond, ◌⊎◌, List, [], ◌∷◌, length, take, refl, ap, sym, ◌∙◌, subst, arith, inl, inr}
 use Rattle.std.proofs.lemmas.Bool.{cases_lt, cases_order, leb-true}
-use Rattle.fleet_laws.specs.Counting.{IsWriteQuorumOfEach}
+use Rattle.fleet_laws.specs.Counting.{IsWriteQuorum, IsWriteQuorumOfEach, count}
+use Rattle.rc_base.specs.Quorum.{write_quorum}
 use Rattle.fleet_laws.specs.Logs.{Entry, Agree, LastAgreed, epoch_at, last_epoch}
-use Rattle.fleet_laws.specs.Fleets.{Value, Fleet, IsAppointed, IsValueOf}
+use Rattle.fleet_laws.specs.Fleets.{Value, Fleet, Configurations, IsAppointed, IsValueOf}
 use Rattle.fleet_laws.specs.Choice.{IsChosen, MayBeChosen, Live, IsCanonical, IsSafe, reaches, may_reach, configurations_of}
 use Rattle.fleet_laws.specs.Invariant.{IsBranch, Appointments, IsSound, IsCopied, Invariant}
 use Rattle.fleet_laws.proofs.Agreement.{agree_self, agree_sym, agree_trans, agree_less, agree_take, agree_epoch}
-use Rattle.fleet_laws.proofs.Counts.{quorums_more}
+use Rattle.fleet_laws.proofs.Counts.{meet, quorums_more}
 use Rattle.fleet_laws.proofs.Tree.{epochs_rise, past_start}
 use Rattle.fleet_laws.proofs.Puts.{may_reached}
 
@@ -18,7 +19,27 @@ chosen_may f e l c = record {
   by = quorums_more (reaches f.acknowledged e l) (may_reach f e l) (λ m h. may_reached f e l m (leb-true l (f.acknowledged m e) h)) (configurations_of f.configurations e) c.by
 }
 
+each_step : (p : ℕ → Bool) (b : Bool) (now before : List ℕ) → IsWriteQuorumOfEach p (cond b (now ∷ []) (before ∷ now ∷ [])) → IsWriteQuorum p now
+each_step p true now before w = w.0
+each_step p false now before w = w.1.0
+
+-- a write quorum of each configuration of an epoch is one of its own
+pub own_quorum : (p : ℕ → Bool) (c : Configurations) (e : ℕ) → IsWriteQuorumOfEach p (configurations_of c e) → IsWriteQuorum p (c.current e)
+own_quorum p c e w = each_step p (c.activated e) (c.current e) (c.previous e) w
+
 module _ (f : Fleet) (i : Invariant f) where
+  -- whoever has acknowledged what is chosen holds it, in each value
+  pub chosen_holds : (e l : ℕ) → IsAppointed f e → IsChosen f e l → (m : ℕ) → reaches f.acknowledged e l m ≡ true → (v : Value) → IsValueOf f m v → Agree l (f.history e) v.log
+  chosen_holds e l a c m t v is = (i.values m v is).holds e l (leb-true l (f.acknowledged m e) t) (record { appointed = a; from = c.from; can = inr (chosen_may f e l c) })
+
+  -- what is chosen is within the history
+  pub chosen_within : (e l : ℕ) → IsAppointed f e → IsChosen f e l → l ≤ length (f.history e)
+  chosen_within e l a c =
+    let q : IsWriteQuorum (reaches f.acknowledged e l) (f.current e) = own_quorum (reaches f.acknowledged e l) f.configurations e c.by in
+    let m = meet (reaches f.acknowledged e l) (reaches f.acknowledged e l) (f.current e) (omega (arith, q)) in
+    let v = i.some_value m.0 in
+    (chosen_holds e l a c m.0 m.2 v.0 v.1).left
+
   -- what is safe at a fence begins the history of each epoch from there on
   pub safe_in_later : (fence : ℕ) (log : List Entry) (s e : ℕ) → IsSafe f.histories f.configurations f.acknowledged fence log s → s ≤ length log → fence ≤ e → IsAppointed f e
     → Agree s log (f.history e)

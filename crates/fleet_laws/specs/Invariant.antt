@@ -66,9 +66,9 @@ pub record IsCopied (f : Fleet) (e c : ℕ) (v : Value) : Type 0 where
   pub stable : v.stable ≤ c
   pub shared : (n : ℕ) → Agree n v.log (f.history e) → n ≤ c
 
--- what a Barrier of epoch e names is chosen at e
+-- what a Barrier of epoch e names stands below it, and is chosen at e
 abbrev pub HasTrueBarriers : Fleet → ℕ → Type 0
-HasTrueBarriers f e = (n s : ℕ) → f.start e ≤ n → n ≤ length (f.history e) → content_at (f.history e) n ≡ Barrier s → IsChosen f e s
+HasTrueBarriers f e = (n s : ℕ) → f.start e ≤ n → n ≤ length (f.history e) → content_at (f.history e) n ≡ Barrier s → (s < n) × IsChosen f e s
 
 pub record Invariant (f : Fleet) : Type 0 where
   pub appointments : Appointments f.histories f.configurations f.acknowledged

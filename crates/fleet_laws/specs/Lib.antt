@@ -1,4 +1,3 @@
-pub mod Quorum
 pub mod Counting
 pub mod Logs
 pub mod Fleets
@@ -6,3 +5,8 @@ pub mod Choice
 pub mod Invariant
 pub mod Growth
 pub mod Moves
+pub mod Epochs
+pub mod Modes
+pub mod Orders
+pub mod Example
+pub mod Laws
