@@ -1,5 +1,5 @@
 -- Beginnings of lists.
-use Rattle.std.proofs.Common.{◌≡◌, ℕ, zero, suc, ◌+◌, ◌<◌, ◌≤◌, List, [], ◌∷◌, ◌++◌, length, take, drop, refl, ap, sym, ◌∙◌, subst, arith, append_assoc, length-append}
+use Rattle.std.proofs.Common.{◌≡◌, ℕ, ◌≤◌, List, [], ◌∷◌, ◌++◌, length, take, drop, refl, ap, sym, ◌∙◌, subst, arith, append_assoc}
 use Rattle.std.proofs.lemmas.List.{take-take, take-append-drop, append-nil}
 use mathlib.Core.List.{IsPrefix}
 use Rattle.fleet_laws.specs.Logs.{Entry, Agree}
@@ -16,9 +16,9 @@ prefix_shorter [] ys zs p q le = (ys, refl)
 prefix_shorter (x ∷ xs) [] zs p q le = absurd (omega arith)
 prefix_shorter (x ∷ xs) (y ∷ ys) [] p q le = absurd (cc (p.1))
 prefix_shorter (x ∷ xs) (y ∷ ys) (z ∷ zs) p q le =
-  let heads : x ≡ y = cc (p.1, q.1) in
-  let rest = prefix_shorter xs ys zs (p.0, cc (p.1)) (q.0, cc (q.1)) (omega arith) in
-  (rest.0, cc (heads, rest.1))
+    let heads : x ≡ y = cc (p.1, q.1) in
+    let rest = prefix_shorter xs ys zs (p.0, cc (p.1)) (q.0, cc (q.1)) (omega arith) in
+    (rest.0, cc (heads, rest.1))
 
 pub prefix_self : {A : Type 0} (xs : List A) → IsPrefix xs xs
 prefix_self xs = ([], append-nil xs)
@@ -33,5 +33,5 @@ take_begins n m xs le = (drop n (take m xs), ap (λ w. w ++ drop n (take m xs)) 
 pub front_begins : {A : Type 0} (n : ℕ) (xs : List A) → IsPrefix (take n xs) xs
 front_begins n xs = (drop n xs, take-append-drop n xs)
 
-pub agree_begins : (n m : ℕ) (a b : List Entry) → n ≤ m → Agree n a b → IsPrefix (take n a) (take m b)
+pub agree_begins : {R : Type 0} (n m : ℕ) (a b : List (Entry R)) → n ≤ m → Agree n a b → IsPrefix (take n a) (take m b)
 agree_begins n m a b le g = subst (λ x. IsPrefix x (take m b)) (sym g.same) (take_begins n m b le)

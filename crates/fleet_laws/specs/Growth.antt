@@ -5,7 +5,7 @@ use Rattle.fleet_laws.specs.Fleets.{Fleet, IsAppointed}
 use Rattle.fleet_laws.specs.Choice.{IsChosen, MayBeChosen}
 
 -- g comes after f: histories and what is chosen only grow, and what may be chosen at an epoch only becomes less once a later one was appointed
-pub record ComesAfter (f g : Fleet) : Type 0 where
+pub record ComesAfter {R : Type 0} (f g : Fleet R) : Type 0 where
   pub appointed : (e : ℕ) → IsAppointed f e → IsAppointed g e
   pub latest : f.latest ≤ g.latest
   pub start : (e : ℕ) → IsAppointed f e → g.start e ≡ f.start e

@@ -3,4 +3,4 @@ use Rattle.fleet_laws.proofs.Derived.{chosen_is_held}
 use Rattle.fleet_laws.proofs.chosen_is_held.Goals as goal
 
 pub returns : goal.returns
-returns c = λ f run e l a k. chosen_is_held f (reached_invariant f run) e l a k
+returns g c = λ f run e l a k. chosen_is_held f (reached_invariant f run) e l a k

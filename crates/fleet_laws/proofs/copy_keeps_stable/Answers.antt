@@ -3,4 +3,4 @@ use Rattle.fleet_laws.proofs.Derived.{copy_keeps_stable}
 use Rattle.fleet_laws.proofs.copy_keeps_stable.Goals as goal
 
 pub returns : goal.returns
-returns c = λ f run r e n head p a v is. copy_keeps_stable f (reached_invariant f run) r e n head p a v is
+returns g c = λ f run r e n head p a v is. copy_keeps_stable f (reached_invariant f run) r e n head p a v is

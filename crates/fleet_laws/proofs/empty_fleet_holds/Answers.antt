@@ -2,4 +2,4 @@ use Rattle.fleet_laws.proofs.Runs.{empty_invariant}
 use Rattle.fleet_laws.proofs.empty_fleet_holds.Goals as goal
 
 pub returns : goal.returns
-returns c = empty_invariant
+returns g c = empty_invariant

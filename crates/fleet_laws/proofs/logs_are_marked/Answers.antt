@@ -3,4 +3,4 @@ use Rattle.fleet_laws.proofs.Derived.{marked}
 use Rattle.fleet_laws.proofs.logs_are_marked.Goals as goal
 
 pub returns : goal.returns
-returns c = λ f run r v a. marked f (reached_invariant f run) r v a
+returns g c = λ f run r v a. marked f (reached_invariant f run) r v a

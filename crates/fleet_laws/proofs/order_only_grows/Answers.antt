@@ -2,4 +2,4 @@ use Rattle.fleet_laws.proofs.Ordering.{order_grows}
 use Rattle.fleet_laws.proofs.order_only_grows.Goals as goal
 
 pub returns : goal.returns
-returns c = order_grows
+returns g c = order_grows

@@ -3,4 +3,4 @@ use Rattle.fleet_laws.proofs.Derived.{undo_keeps_stable}
 use Rattle.fleet_laws.proofs.undo_keeps_stable.Goals as goal
 
 pub returns : goal.returns
-returns c = λ f run r e n k v a ae le w s g. undo_keeps_stable f (reached_invariant f run) r e n k v a ae le w s g
+returns g c = λ f run r e n k v a ae le w s g. undo_keeps_stable f (reached_invariant f run) r e n k v a ae le w s g

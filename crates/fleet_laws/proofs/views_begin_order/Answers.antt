@@ -2,4 +2,4 @@ use Rattle.fleet_laws.proofs.Ordering.{view_begins}
 use Rattle.fleet_laws.proofs.views_begin_order.Goals as goal
 
 pub returns : goal.returns
-returns c = view_begins
+returns g c = view_begins
