@@ -48,6 +48,7 @@ module _ {R : Type 0} (f : Fleet R) (r e l : ℕ) (v : Value R) (i : Invariant f
     latest = omega arith;
     start = λ d h. refl;
     history = (after_self f).history;
+    acknowledged = rises;
     chosen = λ d m h c. record {
       from = c.from;
       by = quorums_more (reaches f.acknowledged d m) (reaches (acknowledged f r e l).acknowledged d m)

@@ -32,6 +32,7 @@ module _ {R : Type 0} (f : Fleet R) where
     latest = omega arith;
     start = λ d h. refl;
     history = (after_self f).history;
+    acknowledged = λ q d. omega arith;
     chosen = λ d l h c. stays_chosen d l c;
     may = λ d l h lt m. record {
       from = m.from;

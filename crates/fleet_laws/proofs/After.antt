@@ -15,6 +15,7 @@ after_self f = record {
   latest = omega arith;
   start = λ e a. refl;
   history = λ e a. agree_self (length (f.history e)) (f.history e) (omega arith);
+  acknowledged = λ r e. omega arith;
   chosen = λ e l a c. c;
   may = λ e l a lt m. m;
 }

@@ -15,6 +15,7 @@ module _ {R : Type 0} (f : Fleet R) (e r : ℕ) (v : Value R) where
     latest = omega arith;
     start = λ d a. refl;
     history = (after_self f).history;
+    acknowledged = λ q d. omega arith;
     chosen = λ d l a c. c;
     may = λ d l a lt m. record { from = m.from; by = m.by };
   }

@@ -65,6 +65,7 @@ module _ {R : Type 0} (f : Fleet R) (e p : ℕ) (v : Value R) (members : List �
     latest = omega (arith, a.above);
     start = same_start;
     history = λ d ad. subst (λ x. Agree (length (f.history d)) (f.history d) x) (sym (same_history d ad)) (agree_self (length (f.history d)) (f.history d) (omega arith));
+    acknowledged = λ q d. omega arith;
     chosen = λ d l ad c. record {
       from = omega (arith, c.from, same_start d ad);
       by = subst (λ cs. IsWriteQuorumOfEach (reaches f.acknowledged d l) cs) (sym (same_configurations d ad)) c.by;

@@ -28,6 +28,7 @@ module _ {R : Type 0} (f : Fleet R) (e p : ℕ) (members : List ℕ) (i : Invari
     latest = omega (arith, no_latest);
     start = λ d ad. nothing d ad;
     history = λ d ad. nothing d ad;
+    acknowledged = λ q d. omega arith;
     chosen = λ d l ad c. nothing d ad;
     may = λ d l ad lt m. nothing d ad;
   }

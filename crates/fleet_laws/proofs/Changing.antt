@@ -52,6 +52,7 @@ module _ {R : Type 0} (f : Fleet R) (r : ℕ) (values : List (Value R)) (role co
     latest = omega arith;
     start = λ d h. refl;
     history = (after_self f).history;
+    acknowledged = λ q d. omega arith;
     chosen = λ d l h c. c;
     may = λ d l h lt m. record {
       from = m.from;

@@ -31,6 +31,7 @@ module _ {R : Type 0} (f : Fleet R) (r e n head p : ℕ) where
     latest = omega arith;
     start = λ d a. refl;
     history = (after_self f).history;
+    acknowledged = λ q d. omega arith;
     chosen = λ d l a c. c;
     may = λ d l a lt m. record { from = m.from; by = m.by };
   }

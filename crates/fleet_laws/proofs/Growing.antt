@@ -42,6 +42,7 @@ module _ {R : Type 0} (f : Fleet R) (r e : ℕ) (entries : List (Entry R)) where
     latest = omega arith;
     start = λ d a. refl;
     history = λ d a. longer d;
+    acknowledged = λ q d. omega arith;
     chosen = λ d l a c. record { from = c.from; by = c.by };
     may = λ d l a lt m. record { from = m.from; by = m.by };
   }

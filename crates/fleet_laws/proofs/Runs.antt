@@ -84,6 +84,7 @@ after_trans f g h a b = record {
   latest = omega (arith, a.latest, b.latest);
   start = λ e x. b.start e (a.appointed e x) ∙ a.start e x;
   history = λ e x. history_after g h b e (Rattle.std.specs.Prelude.length (f.history e)) (f.history e) (a.appointed e x) (a.history e x);
+  acknowledged = λ r e. omega (arith, a.acknowledged r e, b.acknowledged r e);
   chosen = λ e l x c. b.chosen e l (a.appointed e x) (a.chosen e l x c);
   may = λ e l x lt m. a.may e l x lt (b.may e l (a.appointed e x) (omega (arith, lt, a.latest)) m);
 }

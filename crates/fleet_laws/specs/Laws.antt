@@ -70,6 +70,15 @@ LaterEpochsHaveIt R = (f : Fleet R) → IsReached f → KeepsWhatMayBeChosen f
 abbrev pub ChosenStays : Type 0 → Type 0
 ChosenStays R = (f g : Fleet R) → IsReached f → Run f g → ComesAfter f g
 
+-- what is safe stays safe, at greater fences and in other logs with that beginning
+abbrev pub SafeStays : Type 0 → Type 0
+SafeStays R = (f g : Fleet R) → IsReached f → Run f g → (fence high : ℕ) (log more : List (Entry R)) (s : ℕ) → fence ≤ high → Agree s log more
+    → IsSafe f.histories f.configurations f.acknowledged fence log s → IsSafe g.histories g.configurations g.acknowledged high more s
+
+-- and a log of the histories stays one
+abbrev pub CanonicalStays : Type 0 → Type 0
+CanonicalStays R = (f g : Fleet R) → IsReached f → Run f g → (log : List (Entry R)) → IsCanonical f.histories log → IsCanonical g.histories log
+
 -- of two chosen beginnings of histories one begins the other, and the one of the earlier epoch that of the later
 abbrev pub ChosenAreOne : Type 0 → Type 0
 ChosenAreOne R = (f : Fleet R) → IsReached f → (d e l m : ℕ) → IsAppointed f d → IsAppointed f e → IsChosen f d l → IsChosen f e m

@@ -4,7 +4,7 @@
 
 ghost use Rattle.fleet_laws.specs.Fleets.{empty_fleet};
 ghost use Rattle.fleet_laws.specs.Invariant.{Invariant};
-ghost use Rattle.fleet_laws.specs.Laws.{BarriersAreSafe, ChosenAreOne, ChosenIsHeld, ChosenStays, CodesKeepOrder, CopyKeepsStable, CopyModeIsRight, HasQuorumNumber, LaterEpochsHaveIt, LogsAreMarked, LogsAreOfHistories, MovesKeepInvariant, OrderIsHeld, OrderOnlyGrows, PrimaryHasWhatMayBeChosen, QuorumNumberIsChosen, QuorumNumberOfTwo, QuorumsMeet, RunsKeepInvariant, SamePrefix, SomeRunUndoes, StableBeginsLater, TurnsKeepViews, UndoKeepsStable, ViewsBeginOrder};
+ghost use Rattle.fleet_laws.specs.Laws.{BarriersAreSafe, CanonicalStays, ChosenAreOne, ChosenIsHeld, ChosenStays, CodesKeepOrder, CopyKeepsStable, CopyModeIsRight, HasQuorumNumber, LaterEpochsHaveIt, LogsAreMarked, LogsAreOfHistories, MovesKeepInvariant, OrderIsHeld, OrderOnlyGrows, PrimaryHasWhatMayBeChosen, QuorumNumberIsChosen, QuorumNumberOfTwo, QuorumsMeet, RunsKeepInvariant, SafeStays, SamePrefix, SomeRunUndoes, StableBeginsLater, TurnsKeepViews, UndoKeepsStable, ViewsBeginOrder};
 
 /// The numbers that stand for epochs are ordered as the epochs are: by loss, then by number.
 pub fn codes_keep_order()
@@ -79,6 +79,16 @@ pub fn later_epochs_have_it<R>()
 /// What is chosen stays chosen, and what may be chosen only becomes less once a later epoch is appointed.
 pub fn chosen_stays<R>()
     ensures { ChosenStays R }
+{}
+
+/// What is safe stays safe, at greater fences and in other logs with that beginning.
+pub fn safe_stays<R>()
+    ensures { SafeStays R }
+{}
+
+/// A log that is made of the histories stays one.
+pub fn canonical_stays<R>()
+    ensures { CanonicalStays R }
 {}
 
 /// Of two chosen beginnings of histories one begins the other.
