@@ -26,6 +26,7 @@ pub record Configurations : Type 0 where
   pub current : ℕ → List ℕ
   pub previous : ℕ → List ℕ
 
+-- the whole state. R is the type of the records that are no EpochStart and no Barrier. Histories, acknowledgements and what was told are ghosts: no replica keeps them all
 pub record Fleet (R : Type 0) : Type 0 where
   pub histories : Histories R
   pub open histories use {appointed, start, history}
@@ -49,6 +50,7 @@ pub record Fleet (R : Type 0) : Type 0 where
 abbrev pub put : {A : Type 0} → ℕ → A → (ℕ → A) → ℕ → A
 put n x f m = cond (m == n) x (f m)
 
+-- epoch e was appointed, the boot included
 abbrev pub IsAppointed : {R : Type 0} → Fleet R → ℕ → Type 0
 IsAppointed f e = f.appointed e ≡ true
 

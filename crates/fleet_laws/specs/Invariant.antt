@@ -70,6 +70,7 @@ pub record IsCopied {R : Type 0} (f : Fleet R) (e c : ℕ) (v : Value R) : Type 
 abbrev pub HasTrueBarriers : {R : Type 0} → Fleet R → ℕ → Type 0
 HasTrueBarriers f e = (n s : ℕ) → f.start e ≤ n → n ≤ length (f.history e) → content_at (f.history e) n ≡ Barrier s → (s < n) × IsChosen f e s
 
+-- all of it: of the appointments, the tree of histories and its Barriers, the values, the key, surveys, copies in progress and roles
 pub record Invariant {R : Type 0} (f : Fleet R) : Type 0 where
   pub appointments : Appointments f.histories f.configurations f.acknowledged
   pub branches : (e : ℕ) → IsAppointed f e → IsBranch f.histories e

@@ -31,9 +31,11 @@ HasQuorumNumber = (reached : ℕ → ℕ) (members : List ℕ) → 1 ≤ length 
 abbrev pub QuorumNumberOfTwo : Type 0
 QuorumNumberOfTwo = (reached : ℕ → ℕ) (c d : List ℕ) (m n : ℕ) → IsQuorumNumber reached (c ∷ []) m → IsQuorumNumber reached (d ∷ []) n → IsQuorumNumber reached (c ∷ d ∷ []) (min m n)
 
--- what is at or below the quorum number of numbers that were acknowledged is chosen, from the EpochStart on; also where the epoch was activated and its primary still counts both configurations
+-- what is at or below the quorum number of numbers that were acknowledged is chosen, from the EpochStart on; also where the epoch was activated and its primary
+-- still counts both configurations
 abbrev pub QuorumNumberIsChosen : Type 0 → Type 0
-QuorumNumberIsChosen R = (f : Fleet R) (e : ℕ) (reached : ℕ → ℕ) (n l : ℕ) → ((m : ℕ) → reached m ≤ f.acknowledged m e) → IsQuorumNumber reached (configurations_of f.configurations e) n ⊎ IsQuorumNumber reached (f.previous e ∷ f.current e ∷ []) n
+QuorumNumberIsChosen R = (f : Fleet R) (e : ℕ) (reached : ℕ → ℕ) (n l : ℕ) → ((m : ℕ) → reached m ≤ f.acknowledged m e)
+    → IsQuorumNumber reached (configurations_of f.configurations e) n ⊎ IsQuorumNumber reached (f.previous e ∷ f.current e ∷ []) n
     → f.start e ≤ l → l ≤ n → IsChosen f e l
 
 -- any two logs anywhere that have one epoch at a place are one up to it
