@@ -2,7 +2,7 @@
 use Rattle.std.proofs.Common.{◌≡◌, ℕ, Bool, true, cond, [], ◌∷◌, refl, ap, sym, subst, arith, inl, inr}
 use Rattle.fleet_laws.specs.Counting.{IsWriteQuorumOfEach}
 use Rattle.fleet_laws.specs.Fleets.{Fleet, IsAppointed}
-use Rattle.fleet_laws.specs.Choice.{Chosen, reaches, configurations_of}
+use Rattle.fleet_laws.specs.Choice.{Chosen, reaches, configurations_of, may_reach}
 use Rattle.fleet_laws.specs.Invariant.{IsSurveyed, IsBefore, Appointments, Invariant}
 use Rattle.fleet_laws.specs.Moves.{Activates, activated}
 use Rattle.fleet_laws.specs.Growth.{ComesAfter}
@@ -36,7 +36,7 @@ module _ {R : Type 0} (f : Fleet R) where
     chosen = λ d l h c. stays_chosen d l c;
     may = λ d l h lt m. record {
       from = m.from;
-      by = subst (λ cs. IsWriteQuorumOfEach (Rattle.fleet_laws.specs.Choice.may_reach f d l) cs) (others (Rattle.fleet_laws.specs.Choice.may_reach f d l) d (λ is. omega (arith, is, lt))) m.by;
+      by = subst (λ cs. IsWriteQuorumOfEach (may_reach f d l) cs) (others (may_reach f d l) d (λ is. omega (arith, is, lt))) m.by;
     };
   }
 

@@ -1,5 +1,6 @@
 -- The answer of a survey keeps the invariant.
 use Rattle.std.proofs.Common.{◌≡◌, ℕ, true, length, refl, ap, sym, ◌∙◌, subst, arith, inl, inr}
+use Rattle.std.specs.Prelude.{Contains}
 use Rattle.fleet_laws.specs.Logs.{last_epoch}
 use Rattle.fleet_laws.specs.Fleets.{Value, Fleet, IsValueOf}
 use Rattle.fleet_laws.specs.Invariant.{IsSurveyed, Invariant}
@@ -22,7 +23,7 @@ module _ {R : Type 0} (f : Fleet R) (e r : ℕ) (v : Value R) where
 
   module _ (i : Invariant f) (a : Answers f e r v) where
     only : (w : Value R) → IsValueOf f r w → w ≡ v
-    only w c = only_member v w (subst (λ vs. Rattle.std.specs.Prelude.Contains vs w) a.is_open c)
+    only w c = only_member v w (subst (λ vs. Contains vs w) a.is_open c)
 
     newly : (d q : ℕ) → d ≡ e → q ≡ r → IsSurveyed (told f e r v) q d
     newly d q is at = record {

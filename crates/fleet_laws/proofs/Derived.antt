@@ -12,7 +12,7 @@ use Rattle.fleet_laws.specs.Invariant.{IsBranch, IsSound, IsCopied, Invariant}
 use Rattle.fleet_laws.specs.Moves.{Turn, Copies}
 use Rattle.fleet_laws.specs.Moves.Turn.{stays, follows, logs, raises, learns, forgets, rebases, undoes, jumps}
 use Rattle.fleet_laws.proofs.Agreement.{agree_self, agree_sym, agree_trans, agree_less, agree_take, agree_epoch, agree_content}
-use Rattle.fleet_laws.proofs.Tree.{epoch_at-zero, same_epoch_agree, begins_canonical, history_canonical, history_rises, past_start}
+use Rattle.fleet_laws.proofs.Tree.{epoch_at-zero, same_epoch_agree, begins_canonical, history_canonical, history_rises, past_start, epochs_rise}
 use Rattle.fleet_laws.proofs.Use.{chosen_may, chosen_holds, own_quorum, safe_in_later}
 use Rattle.fleet_laws.proofs.Copying.{safe_length, stable_agrees, part_below, shared}
 use Rattle.fleet_laws.proofs.Appointing.{start_is_no_barrier}
@@ -78,7 +78,7 @@ module _ {R : Type 0} (f : Fleet R) (i : Invariant f) where
         s,
         record {
           appointed = t.1.appointed;
-          low = omega (arith, t.1.is, Rattle.fleet_laws.proofs.Tree.epochs_rise f.histories i.branches v.log sound.canonical (suc n) (length v.log) w (omega arith), sound.fenced);
+          low = omega (arith, t.1.is, epochs_rise f.histories i.branches v.log sound.canonical (suc n) (length v.log) w (omega arith), sound.fenced);
           past = omega arith;
           chosen = b.1;
           agree = agree_sym (agree_less s (suc n) v.log (f.history t.0) (omega (arith, b.0)) t.1.agree);

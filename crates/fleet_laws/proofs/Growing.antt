@@ -12,7 +12,7 @@ use Rattle.fleet_laws.specs.Moves.{Grows, grown}
 use Rattle.fleet_laws.specs.Growth.{ComesAfter}
 use Rattle.fleet_laws.proofs.Agreement.{agree_none, agree_self, agree_sym, agree_trans, agree_epoch, agree_append}
 use Rattle.fleet_laws.proofs.Tree.{agrees_with_history}
-use Rattle.fleet_laws.proofs.After.{sound_after, branch_after, barriers_after, key_after, copied_after}
+use Rattle.fleet_laws.proofs.After.{sound_after, branch_after, barriers_after, key_after, copied_after, history_after}
 use Rattle.fleet_laws.proofs.Use.{chosen_within}
 use Rattle.fleet_laws.proofs.Puts.{put_both}
 
@@ -64,7 +64,7 @@ module _ {R : Type 0} (f : Fleet R) (r e : ℕ) (entries : List (Entry R)) where
     old_shared d (suc n) w q c ad g = elim (cases_lt (length (f.history d)) (suc n)) [
       | inl more ↦ agrees_with_history f.histories i.branches w.log (i.values q w c).canonical d (suc n) (omega arith) g.left
           (agree_epoch (suc n) (suc n) w.log ((grown f e entries).history d) (omega arith) g ∙ own d (suc n) more g.right)
-      | inr old ↦ agree_trans g (agree_sym (Rattle.fleet_laws.proofs.After.history_after f (grown f e entries) grow_after d (suc n) (f.history d) ad (agree_self (suc n) (f.history d) old)))
+      | inr old ↦ agree_trans g (agree_sym (history_after f (grown f e entries) grow_after d (suc n) (f.history d) ad (agree_self (suc n) (f.history d) old)))
     ]
 
     appointments : Appointments (grown f e entries).histories f.configurations f.acknowledged

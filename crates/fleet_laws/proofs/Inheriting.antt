@@ -9,8 +9,8 @@ use Rattle.fleet_laws.specs.Choice.{MayBeChosen, frozen, may_reach, configuratio
 use Rattle.fleet_laws.specs.Invariant.{IsSurveyed, IsBefore, IsSound, IsBranch, Appointments, Invariant}
 use Rattle.fleet_laws.specs.Moves.{Appoints}
 use Rattle.fleet_laws.proofs.Counts.{meet}
-use Rattle.fleet_laws.proofs.Agreement.{agree_sym, agree_trans, agree_less, agree_epoch}
-use Rattle.fleet_laws.proofs.Tree.{epochs_rise, past_start, agrees_with_history}
+use Rattle.fleet_laws.proofs.Agreement.{agree_sym, agree_trans, agree_less, agree_epoch, zero_of}
+use Rattle.fleet_laws.proofs.Tree.{epochs_rise, past_start, agrees_with_history, epoch_at-zero}
 use Rattle.fleet_laws.proofs.Puts.{first_member, is_frozen, may_cases}
 use Rattle.fleet_laws.proofs.Use.{chosen_may, own_quorum}
 
@@ -94,7 +94,7 @@ module _ {R : Type 0} (f : Fleet R) (i : Invariant f) (e p : ℕ) (v : Value R) 
       ] in
       let some_entry : 1 ≤ length v.log = elim (cases_lt 0 (length v.log)) [
         | inl one ↦ one
-        | inr none ↦ absurd (omega (arith, high, b.positive, ap (epoch_at v.log) (Rattle.fleet_laws.proofs.Agreement.zero_of (length v.log) none), Rattle.fleet_laws.proofs.Tree.epoch_at-zero v.log))
+        | inr none ↦ absurd (omega (arith, high, b.positive, ap (epoch_at v.log) (zero_of (length v.log) none), epoch_at-zero v.log))
       ] in
       elim (cases_eq (last_epoch v.log) d) [
         | inl is ↦ agree_sym (agree_less l (length v.log) v.log (f.history d) (long is) (agrees_with_history f.histories i.branches v.log sound.canonical d (length v.log) some_entry (omega arith) is))

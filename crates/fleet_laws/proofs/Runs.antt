@@ -1,5 +1,6 @@
 -- The invariant after every run.
 use Rattle.std.proofs.Common.{◌≡◌, ℕ, true, false, [], length, refl, sym, ◌∙◌, subst, arith, inl}
+use Rattle.fleet_laws.proofs.Tree.{epoch_at-zero}
 use Rattle.std.proofs.lemmas.Bool.{false≢true}
 use Rattle.fleet_laws.specs.Fleets.{Value, Fleet, empty_fleet, empty_value}
 use Rattle.fleet_laws.specs.Invariant.{IsSound, Appointments, Invariant}
@@ -26,7 +27,7 @@ empty_sound {R} r v is = subst (IsSound empty_fleet r) (sym is) (record {
   canonical = λ n one w. absurd (omega arith);
   head = omega arith;
   base = omega arith;
-  fenced = omega (arith, Rattle.fleet_laws.proofs.Tree.epoch_at-zero {R = R} []);
+  fenced = omega (arith, epoch_at-zero {R = R} []);
   holds = λ e l le live. no_epoch live.appointed;
   safe = inl refl;
 })
@@ -83,7 +84,7 @@ after_trans f g h a b = record {
   appointed = λ e x. b.appointed e (a.appointed e x);
   latest = omega (arith, a.latest, b.latest);
   start = λ e x. b.start e (a.appointed e x) ∙ a.start e x;
-  history = λ e x. history_after g h b e (Rattle.std.specs.Prelude.length (f.history e)) (f.history e) (a.appointed e x) (a.history e x);
+  history = λ e x. history_after g h b e (length (f.history e)) (f.history e) (a.appointed e x) (a.history e x);
   acknowledged = λ r e. omega (arith, a.acknowledged r e, b.acknowledged r e);
   chosen = λ e l x c. b.chosen e l (a.appointed e x) (a.chosen e l x c);
   may = λ e l x lt m. a.may e l x lt (b.may e l (a.appointed e x) (omega (arith, lt, a.latest)) m);
