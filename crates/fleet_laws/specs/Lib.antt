@@ -1,0 +1,12 @@
+pub mod Counting
+pub mod Logs
+pub mod Fleets
+pub mod Choice
+pub mod Invariant
+pub mod Growth
+pub mod Moves
+pub mod Epochs
+pub mod Modes
+pub mod Orders
+pub mod Example
+pub mod Laws
