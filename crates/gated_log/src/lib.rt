@@ -9,3 +9,6 @@ mod log;
 pub use block::{Block, Blocks};
 pub use error::LogError;
 pub use log::GatedLog;
+
+#[cfg(test)]
+mod tests;

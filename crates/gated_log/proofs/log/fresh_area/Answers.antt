@@ -42,4 +42,4 @@ returns-clause-settled g c s image =
     let payloads = c.args.payloads.now in
     let before = c.in_ok-replace.ensures.done s image in
     at_rest_left payloads _ _ c.requires.payloads (before.2.there ∙ c.deref.ensures.value ∙ c.in_ok-whole.ensures.bytes)
-      (omega (arith, ap length c.in_ok-whole.ensures.bytes, length-append (spelling payloads) (0 ∷ []), c.in_ok-whole.whole.ok.0))
+    (omega (arith, ap length c.in_ok-whole.ensures.bytes, length-append (spelling payloads) (0 ∷ []), c.in_ok-whole.whole.ok.0))
