@@ -1,11 +1,11 @@
 -- What the writes and cuts of a log do to the blocks of its area.
-use Rattle.std.proofs.Common.{◌≡◌, ◌≢◌, ◌⊎◌, inl, inr, ℕ, zero, suc, ◌+◌, ◌-◌, ◌^◌, ◌≤◌, ◌<◌, min, List, [], ◌∷◌, ◌++◌, length, take, drop, get_or, refl, sym, ◌∙◌, ap, subst, arith}
-use Rattle.std.proofs.lemmas.List.{append-nil, append_assoc, length-append, length-take, length-take-le, length-drop, take_at, drop_at, take-take, take-append-drop, drop_more, drop_all, take_all, nil_from_length, get_or_at}
+use Rattle.std.proofs.Common.{◌≡◌, ◌≢◌, ◌⊎◌, inl, inr, ℕ, zero, suc, ◌+◌, ◌-◌, ◌≤◌, min, List, [], ◌∷◌, ◌++◌, length, take, drop, get_or, refl, sym, ◌∙◌, ap, subst, arith}
+use Rattle.std.proofs.lemmas.List.{append-nil, append_assoc, length-append, length-take, length-take-le, length-drop, take_at, drop_at, take-append-drop, drop_more, drop_all, take_all, nil_from_length, get_or_at}
 use Rattle.std.proofs.lemmas.Bool.{cases_eq, cases_lt}
 use Rattle.std.specs.Int.{w32, to_be_bytes}
 use Rattle.disk_model.specs.Disk.{written, Torn, Cut}
-use Rattle.gated_log.specs.Blocks.{open_blocks, IsPayload, AllPayloads, block, behind_gate, spelling, IsAtRest, Keeps, KeepsOrGains, KeepsPrefix, HasNoneOrThese}
-use Rattle.gated_log.proofs.Opening.{shut_front, lone_gate, front_nothing, front_prefix, open_block, open_spelling, length-block, Parts}
+use Rattle.gated_log.specs.Blocks.{open_blocks, IsPayload, AllPayloads, block, behind_gate, spelling, IsAtRest, Keeps, KeepsOrGains, KeepsPrefix}
+use Rattle.gated_log.proofs.Opening.{shut_front, lone_gate, front_nothing, front_prefix, open_spelling, length-block, Parts}
 
 take_behind : (xs ys : List ℕ) (m n : ℕ) → m ≡ length xs + n → take m (xs ++ ys) ≡ xs ++ take n ys
 take_behind [] ys m n is = let same : m ≡ n = omega arith in ap (λ (k : ℕ). take k ys) same

@@ -1,5 +1,5 @@
 -- How the steps of a log on its area join, over all images of a disk.
-use Rattle.std.proofs.Common.{◌≡◌, ◌≢◌, ℕ, List, Option, Some, None, refl, sym, ◌∙◌, ap, subst}
+use Rattle.std.proofs.Common.{◌≡◌, ℕ, List, Option, Some, None, refl, ◌∙◌, ap}
 use Rattle.std.specs.Option.{ForSome, option_map}
 use Rattle.disk_model.specs.Disk.{Areas, with_area, Changes, Becomes, Follows, Within, Each}
 use Rattle.disk_model.proofs.Areas.{with_area_there, with_area_elsewhere}

@@ -1,4 +1,4 @@
-use Rattle.std.proofs.Common.{◌≡◌, ◌∙◌, ◌-◌, ◌≤◌, ◌<◌, ℕ, length, drop, get_or, refl, arith}
+use Rattle.std.proofs.Common.{◌≡◌, ◌∙◌, drop, get_or, refl, arith}
 use Rattle.std.proofs.lemmas.List.{length-drop}
 use Rattle.gated_log.specs.Blocks.{length_at}
 use Rattle.gated_log.proofs.Opening.{read_length, opens_with, opens_nothing}

@@ -1,4 +1,4 @@
-use Rattle.std.proofs.Common.{◌≡◌, ◌∙◌, ◌+◌, ◌-◌, ◌≤◌, ℕ, List, length, take, drop, sym, ap, subst, arith}
+use Rattle.std.proofs.Common.{◌≡◌, ◌∙◌, ◌+◌, ◌-◌, ℕ, List, take, drop, sym, ap, subst, arith}
 use Rattle.std.proofs.lemmas.List.{take_rest, drop-drop, length-drop}
 use Rattle.gated_log.specs.Blocks.{OpensWith}
 use Rattle.gated_log.proofs.Opening.{walk_more, walk_place}

@@ -1,5 +1,5 @@
-use Rattle.std.proofs.Common.{◌≡◌, ◌∙◌, ◌+◌, ◌≤◌, ◌++◌, ◌∷◌, [], ℕ, List, length, inl, refl, sym, ap, subst, arith}
-use Rattle.disk_model.specs.Disk.{Areas, written, Torn}
+use Rattle.std.proofs.Common.{◌≡◌, ◌∙◌, ◌+◌, ◌≤◌, ◌∷◌, [], ℕ, List, length, inl, refl, sym, ap, subst, arith}
+use Rattle.disk_model.specs.Disk.{written, Torn}
 use Rattle.gated_log.specs.Blocks.{IsAtRest, KeepsOrGains, Gains, behind_gate}
 use Rattle.gated_log.proofs.Ends.{length-at_rest, length-behind_gate, written_reaches, torn_behind, torn_gate, written_gate}
 use Rattle.gated_log.proofs.Steps.{Both, then, there, becomes, each_after, stays_put, elsewhere_with, elsewhere_then}

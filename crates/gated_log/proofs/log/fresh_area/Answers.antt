@@ -1,4 +1,4 @@
-use Rattle.std.proofs.Common.{◌≡◌, ◌∙◌, ◌⊎◌, ◌≤◌, ◌++◌, ◌∷◌, [], ℕ, List, length, take, inl, refl, sym, ap, subst, arith}
+use Rattle.std.proofs.Common.{◌≡◌, ◌∙◌, ◌⊎◌, ◌++◌, ◌∷◌, [], ℕ, List, length, take, inl, refl, sym, ap, subst, arith}
 use Rattle.std.proofs.lemmas.List.{take_all, length-append}
 use Rattle.disk_model.specs.Disk.{Changes, Follows}
 use Rattle.gated_log.specs.Blocks.{open_blocks, spelling, KeepsPrefix, HasThese, HasNoneOrThese}

@@ -1,4 +1,4 @@
-use Rattle.std.proofs.Common.{◌≡◌, ◌∙◌, ◌-◌, ◌≤◌, ◌∷◌, [], ℕ, List, length, take, drop, inl, inr, sym, ap}
+use Rattle.std.proofs.Common.{◌≡◌, ◌∙◌, ◌-◌, ◌∷◌, [], ℕ, List, length, take, drop, inl, inr, sym, ap}
 use Rattle.std.proofs.lemmas.List.{take_rest}
 use Rattle.disk_model.specs.Disk.{written, Torn, Cut}
 use Rattle.gated_log.specs.Blocks.{open_blocks, KeepsPrefix, HasNoneOrThese}
