@@ -1,0 +1,9 @@
+//! What a transcript may be: the observations and how they print, the one order of committed transactions, the
+//! machine that every run is a run of, and which lines each event may have.
+#![tactic(auto)]
+
+mod observation;
+mod observations;
+
+pub use observation::Observation;
+pub use observations::Observations;

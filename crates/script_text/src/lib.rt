@@ -1,0 +1,11 @@
+//! The script's text: each sentence is an event, each event has one text, and a line is a sentence, skipped, or bad.
+#![tactic(auto)]
+
+mod event;
+mod read;
+mod replicas;
+
+pub use event::Event;
+pub use read::{ScriptError, read_event};
+pub use replicas::Replicas;
+
