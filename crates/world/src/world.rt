@@ -1,4 +1,4 @@
-ghost use Rattle.std.specs.Prelude.{◌≡◌, ◌<◌, ◌≤◌, ◌+◌, List, [], ◌∷◌, IfOk, OnOk, OnErr, Err, IsErrOf, false, true, None, Some, is_some};
+ghost use Rattle.std.specs.Prelude.{◌≡◌, ◌<◌, ◌≤◌, ◌+◌, List, [], ◌∷◌, IfOk, OnOk, OnErr, Err, IsErrOf, false, true, None, Some, vec_len};
 ghost use Rattle.script_text.specs.Sentence.{IsBuilt};
 ghost use Rattle.order_machine.specs.declared.observation.Observation.{Observation};
 ghost use Rattle.order_machine.specs.Machine.{Machine, empty_machine};
@@ -10,6 +10,7 @@ ghost use Rattle.world.specs.World.{StandsFor, Serves};
 
 use crate::error::WorldError;
 use coll_model::Ops;
+use disk_model::CrashDisk;
 use order_machine::{Observation, Observations};
 use rc_base::{Epoch, NoMemory, ReplicaId, TxnId};
 use script_text::Event;
@@ -69,13 +70,21 @@ impl World {
     /// # Errors
     /// `Unbuilt` exactly where the event waits for a later version at this state; `NoMemory` for want of memory. The
     /// world is dropped then.
-    pub fn event(&mut self, number: u64, event: &Event) -> Result<Observations, WorldError>
+    pub fn event<M: CrashDisk>(
+        &mut self,
+        fleet: &mut Vec<M>,
+        number: u64,
+        event: &Event,
+    ) -> Result<Observations, WorldError>
+        requires nine { vec_len fleet.old ≡ 9 }
         requires built { IsBuilt event.now }
         requires rising { self.old.last < number }
         requires within { number ≤ 1000000 }
         ensures serves { Serves self.old self.new event.now result }
         ensures last { OnOk result (self.new.last ≡ number) }
+        ensures disks { fleet.new.items ≡ fleet.old.items }
     {
+        let _ = fleet;
         match event {
             Event::Boot(primary, _) => self.boot(number, *primary),
             Event::Begin(_) => self.begin(number),

@@ -33,4 +33,9 @@ returns-then-ne-clause-serves c =
     (c.in_ok-push.ensures.ok ∙ ap (λ ls. ls ++ says.Ended c.args.txn ∷ []) c.new-lines.ensures) m (subst (λ k. StandsFor k m) (sym c.self.view_is) s)
 
 pub returns-clause-serves : goal.returns-clause-serves
-returns-clause-serves c = let b = c.if-ne.ensures in let d = c.committed.ensures in let e = c.in_ok-lines.ensures in ?
+returns-clause-serves c =
+    let now : ℕ → List Observation = λ shown. says.Order c.args.txn [] ∷ says.View 0 (shown + 1) ∷ says.Committed c.args.txn ∷ [] in
+    λ m s. commit_kept c.self.inside.last c.args.number c.self.inside.begins c.self.inside.shown c.self.inside.booted c.self.inside.live c.args.txn c.in_ok-lines.lines c.if-not-self.false
+    (live_is c.args.txn c.self.inside.live (sym (equal_is c.args.txn c.self.inside.live) ∙ not_not _ c.if-ne.ensures))
+    (c.in_ok-lines.ensures.lines ∙ ap (λ r. says.Order c.args.txn [] ∷ says.View r (c.args.self.now.shown + 1) ∷ says.Committed c.args.txn ∷ []) c.requires.first ∙ ap now (sym (ap (λ k. k.shown) c.self.view_is)))
+    m (subst (λ k. StandsFor k m) (sym c.self.view_is) s)
