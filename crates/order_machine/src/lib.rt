@@ -4,6 +4,11 @@
 
 mod observation;
 mod observations;
+mod printing;
 
 pub use observation::Observation;
 pub use observations::Observations;
+pub use printing::print;
+
+#[cfg(test)]
+mod tests;
