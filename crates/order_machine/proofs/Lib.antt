@@ -1,1 +1,4 @@
+pub mod Ids
+pub mod Kept
+pub mod Lists
 pub mod Words
