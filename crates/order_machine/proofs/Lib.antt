@@ -1,4 +1,5 @@
 pub mod Ids
 pub mod Kept
 pub mod Lists
+pub mod Steps
 pub mod Words
