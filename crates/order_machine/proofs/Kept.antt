@@ -1,10 +1,10 @@
 -- What every machine of a legal run keeps, and that each change of a line keeps it.
-use Rattle.std.proofs.Common.{◌≡◌, ◌∙◌, ℕ, suc, ◌+◌, ◌-◌, ◌<◌, ◌≤◌, Bool, true, false, ◌||◌, List, [], ◌∷◌, ◌++◌, map, set, get_or, replicate, length, Option, Some, None, cond, refl, sym, ap, subst, inl, inr, le_of_eq, append-nil, arith, filter_map}
-use Rattle.std.specs.Prelude.{find, option_map, is_some}
+use Rattle.std.proofs.Common.{◌≡◌, ◌∙◌, ℕ, zero, suc, ◌+◌, ◌-◌, ◌≤◌, Bool, true, false, List, [], ◌∷◌, ◌++◌, map, set, get_or, replicate, Option, Some, None, cond, refl, sym, ap, subst, inl, inr, le_of_eq, append-nil, arith, filter_map}
+use Rattle.std.specs.Prelude.{find, option_map}
 use Rattle.std.specs.List.{list_any, AllByRecursion, IsDistinct, cons_option}
 use Rattle.std.specs.Option.{option_map_or}
 use Rattle.std.specs.Map.{lookup}
-use Rattle.std.proofs.lemmas.Bool.{false≢true, or_cases, or_left, or_right, cases_Bool, cond-true, cond-false, cases_lt, false_from_ne_true}
+use Rattle.std.proofs.lemmas.Bool.{false≢true, or_cases, or_left, cases_Bool, cond-true, cond-false, cases_lt, false_from_ne_true}
 use Rattle.std.proofs.lemmas.Option.{none-some, same_Some}
 use Rattle.std.proofs.lemmas.List.{length-append, map_push, get_or-replicate, get_or_past, length-replicate}
 use Rattle.std.proofs.lemmas.List.Elements.{filter_map-append}
@@ -17,9 +17,10 @@ use Rattle.order_machine.specs.Ids.{is_epoch, is_txn, epoch_le}
 use Rattle.order_machine.specs.Order.{Entry, Order, empty_order, length_of, first_of, holds}
 use Rattle.order_machine.specs.Machine.{Machine, Replica, Role, Txn, Noted, Appointment, never_opened, empty_machine, replica, put_replica, order_of, role_of, txn_of, put_txn, is_shown, is_acknowledged, ops_of}
 use Rattle.order_machine.specs.Answers.{noted, begun, new_txn, one_more_begun}
+use Rattle.order_machine.specs.Laws.{IsAsked, entries_of}
 use Rattle.order_machine.specs.Rows.{ordering, acknowledging, activated, noting_active, showing}
-use Rattle.order_machine.proofs.Ids.{is_epoch-true, is_epoch_same, is_txn-true, is_txn_same, is_txn_equivalence}
-use Rattle.order_machine.proofs.Lists.{list_any-take_more, list_any-from_take, list_any-take_added, list_any-map, AllByRecursion-push, AllByRecursion-weaker, at_written, at_each, at_each_other}
+use Rattle.order_machine.proofs.Ids.{is_txn-true, is_txn_equivalence}
+use Rattle.order_machine.proofs.Lists.{list_any-take_more, list_any-from_take, list_any-take_added, list_any-map, AllByRecursion-push, AllByRecursion-weaker, at_each, at_each_other}
 
 -- ---- what is kept
 
@@ -64,8 +65,8 @@ shown_is m k r t = ap (λ o. holds (first_of o (replica m r).show) t) (order_is 
 never_put : (r : ℕ) → get_or (replicate 9 never_opened) r never_opened ≡ never_opened
 never_put r =
     elim (cases_lt r 9) [
-      inl lt ↦ get_or-replicate 9 r never_opened never_opened lt
-    | inr le ↦ get_or_past (replicate 9 never_opened) r never_opened (subst (λ n. n ≤ r) (sym (length-replicate 9 never_opened)) le)
+      | inl lt ↦ get_or-replicate 9 r never_opened never_opened lt
+      | inr le ↦ get_or_past (replicate 9 never_opened) r never_opened (subst (λ n. n ≤ r) (sym (length-replicate 9 never_opened)) le)
     ]
 
 pub kept_empty : Kept empty_machine
@@ -174,14 +175,14 @@ kept_acknowledging m k r t shown elsewhere = record {
       primary = old.primary;
       counted = old.counted;
       shows = λ active u ack le. elim (or_cases (is_txn u t) (list_any (is_txn u) m.acknowledged) ack) [
-        inl same ↦ let e = is_txn-true u t same in subst (λ v. holds (first_of k.order (replica m q).show) v ≡ true) (sym e) (sym (shown_is m k q t) ∙ elsewhere q role is active (subst (λ v. epoch_le v.epoch role.epoch ≡ true) e le))
-      | inr before ↦ old.shows active u before le
+        | inl same ↦ let e = is_txn-true u t same in subst (λ v. holds (first_of k.order (replica m q).show) v ≡ true) (sym e) (sym (shown_is m k q t) ∙ elsewhere q role is active (subst (λ v. epoch_le v.epoch role.epoch ≡ true) e le))
+        | inr before ↦ old.shows active u before le
       ];
     };
   };
   held = λ u ack. elim (or_cases (is_txn u t) (list_any (is_txn u) m.acknowledged) ack) [
-    inl same ↦ subst (λ v. holds k.order.entries v ≡ true) (sym (is_txn-true u t same)) (list_any-from_take (λ e. is_txn t e.txn) ((replica m r).show - k.order.base) k.order.entries (sym (shown_is m k r t) ∙ shown))
-  | inr before ↦ k.held u before
+    | inl same ↦ subst (λ v. holds k.order.entries v ≡ true) (sym (is_txn-true u t same)) (list_any-from_take (λ e. is_txn t e.txn) ((replica m r).show - k.order.base) k.order.entries (sym (shown_is m k r t) ∙ shown))
+    | inr before ↦ k.held u before
   ];
   once = k.once;
   asked = k.asked;
@@ -194,8 +195,8 @@ kept_acknowledging m k r t shown elsewhere = record {
 lookup_new : {P : Type 0} (txns : List (TxnId × Txn)) (t u : TxnId) (new y : Txn) → lookup (is_txn u) ((t, new) ∷ txns) ≡ Some y → (u ≡ t → new ≡ y → P) → (lookup (is_txn u) txns ≡ Some y → P) → P
 lookup_new txns t u new y h here before =
     elim (cases_Bool (is_txn u t)) [
-      inl same ↦ here (is_txn-true u t same) (same_Some new y (sym (cond-true (is_txn u t) (Some new) (lookup (is_txn u) txns) same) ∙ h))
-    | inr other ↦ before (sym (cond-false (is_txn u t) (Some new) (lookup (is_txn u) txns) other) ∙ h)
+      | inl same ↦ here (is_txn-true u t same) (same_Some new y (sym (cond-true (is_txn u t) (Some new) (lookup (is_txn u) txns) same) ∙ h))
+      | inr other ↦ before (sym (cond-false (is_txn u t) (Some new) (lookup (is_txn u) txns) other) ∙ h)
     ]
 
 lookup_here : (txns : List (TxnId × Txn)) (t u : TxnId) (new : Txn) → is_txn u t ≡ true → lookup (is_txn u) ((t, new) ∷ txns) ≡ Some new
@@ -211,15 +212,15 @@ no_txns m k t x known unbooted = none-some x (ap (λ txns. lookup (is_txn t) txn
 asked_again : (txns : List (TxnId × Txn)) (t : TxnId) (old new : Txn) → lookup (is_txn t) txns ≡ Some old → (old.asked ≡ true → new.asked ≡ true) → ops_of old ≡ ops_of new → (e : Entry) → IsAskedIn txns e → IsAskedIn ((t, new) ∷ txns) e
 asked_again txns t old new known stays same e k =
     elim (cases_Bool (is_txn e.txn t)) [
-      inl here ↦
-        let is : k.txn ≡ old = same_Some k.txn old (sym k.known ∙ (ap (λ u. lookup (is_txn u) txns) (is_txn-true e.txn t here) ∙ known)) in
-        record {
-          txn = new;
-          known = lookup_here txns t e.txn new here;
-          asked = stays (ap (λ x. x.asked) (sym is) ∙ k.asked);
-          whole = k.whole ∙ (ap ops_of is ∙ same);
-        }
-    | inr other ↦ record { txn = k.txn; known = lookup_other txns t e.txn new other ∙ k.known; asked = k.asked; whole = k.whole }
+      | inl here ↦
+          let is : k.txn ≡ old = same_Some k.txn old (sym k.known ∙ (ap (λ u. lookup (is_txn u) txns) (is_txn-true e.txn t here) ∙ known)) in
+          record {
+            txn = new;
+            known = lookup_here txns t e.txn new here;
+            asked = stays (ap (λ x. x.asked) (sym is) ∙ k.asked);
+            whole = k.whole ∙ (ap ops_of is ∙ same);
+          }
+      | inr other ↦ record { txn = k.txn; known = lookup_other txns t e.txn new other ∙ k.known; asked = k.asked; whole = k.whole }
     ]
 
 pub kept_put_known : (m : Machine) (k : Kept m) (t : TxnId) (old new : Txn) → txn_of m t ≡ Some old → (old.asked ≡ true → new.asked ≡ true) → ops_of old ≡ ops_of new → Kept (put_txn m t new)
@@ -261,7 +262,6 @@ one_primary order acknowledged txns appointments q r show other a b k l same =
 abbrev pub next_of : Role → TxnId
 next_of role = record { epoch = role.epoch; n = role.begins + 1 }
 
-
 -- the next transaction of a role isn't known yet
 next_is_new : (m : Machine) (k : Kept m) (r : ℕ) (role : Role) → role_of m r ≡ Some role → (x : Txn) → txn_of m (next_of role) ≡ Some x → ⊥
 next_is_new m k r role is x known =
@@ -273,8 +273,8 @@ begun_role m k r role is q show other old apart = record {
   appointed = old.appointed;
   primary = old.primary;
   counted = λ u y epoch found. lookup_new m.txns (next_of role) u (new_txn m r) y found
-    (λ here _. absurd (apart (one_primary k.order m.acknowledged m.txns m.appointments q r show (replica m r).show other role old ((k.replicas r).role role is) (sym epoch ∙ ap (λ v. v.epoch) here))))
-    (old.counted u y epoch);
+      (λ here _. absurd (apart (one_primary k.order m.acknowledged m.txns m.appointments q r show (replica m r).show other role old ((k.replicas r).role role is) (sym epoch ∙ ap (λ v. v.epoch) here))))
+      (old.counted u y epoch);
   shows = old.shows;
 }
 
@@ -284,8 +284,8 @@ begun_role_here m k r role is = let old = (k.replicas r).role role is in record 
   appointed = old.appointed;
   primary = old.primary;
   counted = λ u y epoch found. lookup_new m.txns (next_of role) u (new_txn m r) y found
-    (λ here _. le_of_eq (ap (λ v. v.n) here))
-    (λ before. let counted = old.counted u y epoch before in omega arith);
+      (λ here _. le_of_eq (ap (λ v. v.n) here))
+      (λ before. let counted = old.counted u y epoch before in omega arith);
   shows = old.shows;
 }
 
@@ -294,26 +294,26 @@ kept_begun m k r role is = record {
   order = k.order;
   one = k.one;
   replicas = at_each_other (OfReplica k.order m.acknowledged ((next_of role, new_txn m r) ∷ m.txns) m.appointments) m.replicas r (record (replica m r) { role = option_map one_more_begun (role_of m r) }) never_opened
-    (λ q apart. record {
-      loss = (k.replicas q).loss;
-      within = (k.replicas q).within;
-      role = λ other e. begun_role m k r role is q (replica m q).show other ((k.replicas q).role other e) apart;
-    })
-    (λ past. record { loss = refl; within = subst (λ x. x.show ≤ length_of k.order) past (k.replicas r).within; role = λ other e. absurd (none-some other e) })
-    (record {
-      loss = (k.replicas r).loss;
-      within = (k.replicas r).within;
-      role = λ other e. subst (OfRole k.order m.acknowledged ((next_of role, new_txn m r) ∷ m.txns) m.appointments r (replica m r).show) (same_Some (one_more_begun role) other (sym (ap (option_map one_more_begun) is) ∙ e)) (begun_role_here m k r role is);
-    });
+      (λ q apart. record {
+        loss = (k.replicas q).loss;
+        within = (k.replicas q).within;
+        role = λ other e. begun_role m k r role is q (replica m q).show other ((k.replicas q).role other e) apart;
+      })
+      (λ past. record { loss = refl; within = subst (λ x. x.show ≤ length_of k.order) past (k.replicas r).within; role = λ other e. absurd (none-some other e) })
+      (record {
+        loss = (k.replicas r).loss;
+        within = (k.replicas r).within;
+        role = λ other e. subst (OfRole k.order m.acknowledged ((next_of role, new_txn m r) ∷ m.txns) m.appointments r (replica m r).show) (same_Some (one_more_begun role) other (sym (ap (option_map one_more_begun) is) ∙ e)) (begun_role_here m k r role is);
+      });
   held = k.held;
   once = k.once;
   asked = AllByRecursion-weaker (IsAskedIn m.txns) (IsAskedIn ((next_of role, new_txn m r) ∷ m.txns)) k.order.entries
-    (λ e asked. record {
-      txn = asked.txn;
-      known = lookup_other m.txns (next_of role) e.txn (new_txn m r) (false_from_ne_true (is_txn e.txn (next_of role)) (λ same. next_is_new m k r role is asked.txn (ap (λ u. lookup (is_txn u) m.txns) (sym (is_txn-true e.txn (next_of role) same)) ∙ asked.known))) ∙ asked.known;
-      asked = asked.asked;
-      whole = asked.whole;
-    }) k.asked;
+      (λ e asked. record {
+        txn = asked.txn;
+        known = lookup_other m.txns (next_of role) e.txn (new_txn m r) (false_from_ne_true (is_txn e.txn (next_of role)) (λ same. next_is_new m k r role is asked.txn (ap (λ u. lookup (is_txn u) m.txns) (sym (is_txn-true e.txn (next_of role) same)) ∙ asked.known))) ∙ asked.known;
+        asked = asked.asked;
+        whole = asked.whole;
+      }) k.asked;
   unbooted = λ e. absurd (none-some (((k.replicas r).role role is).appointment) (ap (λ others. find (λ a. is_epoch role.epoch a.epoch) others) (sym e) ∙ ((k.replicas r).role role is).appointed));
 }
 
@@ -350,25 +350,45 @@ kept_activated m k r role is shows =
       order = k.order;
       one = k.one;
       replicas = at_each (OfReplica k.order m.acknowledged m.txns later) m.replicas r (record (replica m r) { role = Some (record role { active = true }) }) never_opened
-        (λ q. record {
-          loss = (k.replicas q).loss;
-          within = (k.replicas q).within;
-          role = λ other e. role_noted role.epoch m.appointments other ((k.replicas q).role other e);
-        })
-        (record {
-          loss = (k.replicas r).loss;
-          within = (k.replicas r).within;
-          role = λ other e. subst (OfRole k.order m.acknowledged m.txns later r (replica m r).show) (same_Some (record role { active = true }) other e)
-            (let old = role_noted role.epoch m.appointments role ((k.replicas r).role role is) in record {
-              appointment = old.appointment;
-              appointed = old.appointed;
-              primary = old.primary;
-              counted = old.counted;
-              shows = λ _ t ack le. sym (shown_is m k r t) ∙ shows t ack le;
-            });
-        });
+          (λ q. record {
+            loss = (k.replicas q).loss;
+            within = (k.replicas q).within;
+            role = λ other e. role_noted role.epoch m.appointments other ((k.replicas q).role other e);
+          })
+          (record {
+            loss = (k.replicas r).loss;
+            within = (k.replicas r).within;
+            role = λ other e. subst (OfRole k.order m.acknowledged m.txns later r (replica m r).show) (same_Some (record role { active = true }) other e)
+                (let old = role_noted role.epoch m.appointments role ((k.replicas r).role role is) in record {
+                  appointment = old.appointment;
+                  appointed = old.appointed;
+                  primary = old.primary;
+                  counted = old.counted;
+                  shows = λ _ t ack le. sym (shown_is m k r t) ∙ shows t ack le;
+                });
+          });
       held = k.held;
       once = k.once;
       asked = k.asked;
       unbooted = λ e. k.unbooted (noting_none role.epoch m.appointments e);
     }
+
+-- ---- the one order among those by loss number
+
+pub first_entries : (m : Machine) (k : Kept m) → entries_of m 0 ≡ k.order.entries
+first_entries m k = ap (λ os. (get_or os 0 empty_order).entries) k.one
+
+-- there are no entries under another loss number
+other_entries : (m : Machine) (k : Kept m) (loss : ℕ) → entries_of m (suc loss) ≡ []
+other_entries m k loss = ap (λ os. (get_or os (suc loss) empty_order).entries) k.one
+
+pub once_entries : (m : Machine) (k : Kept m) (loss : ℕ) → IsDistinct is_txn (map (λ e. e.txn) (entries_of m loss))
+unfolding IsDistinct
+once_entries m k zero = subst (λ es. IsDistinct is_txn (map (λ e. e.txn) es)) (sym (first_entries m k)) k.once
+once_entries m k (suc loss) = subst (λ es. IsDistinct is_txn (map (λ e. e.txn) es)) (sym (other_entries m k loss)) tt
+
+pub asked_entries : (m : Machine) (k : Kept m) (loss : ℕ) → AllByRecursion (IsAsked m) (entries_of m loss)
+asked_entries m k zero =
+    subst (AllByRecursion (IsAsked m)) (sym (first_entries m k))
+    (AllByRecursion-weaker (IsAskedIn m.txns) (IsAsked m) k.order.entries (λ e asked. record { txn = asked.txn; known = asked.known; asked = asked.asked; whole = asked.whole }) k.asked)
+asked_entries m k (suc loss) = subst (AllByRecursion (IsAsked m)) (sym (other_entries m k loss)) tt

@@ -1,5 +1,5 @@
 -- Each line of an event keeps what machines keep, and what holds at its place among the lines.
-use Rattle.std.proofs.Common.{◌≡◌, ◌∙◌, ℕ, ◌+◌, ◌<◌, ◌≤◌, Bool, true, false, not, ◌&&◌, cond, List, [], ◌∷◌, Option, Some, None, refl, sym, ap, subst, le_of_lt, eqb}
+use Rattle.std.proofs.Common.{◌≡◌, ◌∙◌, ℕ, ◌≤◌, Bool, true, false, not, cond, List, [], ◌∷◌, Option, Some, None, refl, sym, ap, subst, le_of_lt, eqb}
 use Rattle.std.specs.Prelude.{find, is_some, is_none}
 use Rattle.std.specs.Option.{option_map_or}
 use Rattle.std.specs.Map.{lookup}
@@ -13,11 +13,11 @@ use Rattle.order_machine.specs.declared.observation.Observation.{Observation}
 use Rattle.order_machine.specs.declared.observation.Observation.TheVariants as says
 use Rattle.order_machine.specs.Ids.{is_epoch, is_txn}
 use Rattle.order_machine.specs.Order.{length_of}
-use Rattle.order_machine.specs.Machine.{Machine, Replica, Role, Txn, Appointment, never_opened, replica, put_replica, put_role, role_of, is_active}
+use Rattle.order_machine.specs.Machine.{Machine, Txn, Appointment, never_opened, replica, put_replica, put_role, role_of, is_active}
 use Rattle.order_machine.specs.Answers.{answer, answered_at, next_txn}
-use Rattle.order_machine.specs.Rows.{Position, event_primary, first_epoch, is_named, is_next, May, MayAnswer, after, answering, new_role, with_first_role, showing, now_active, activated, noting_active, up_again}
+use Rattle.order_machine.specs.Rows.{Position, event_primary, first_epoch, is_named, May, MayAnswer, after, answering, new_role, with_first_role, showing, activated, up_again}
 use Rattle.order_machine.proofs.Lists.{at_written, some_of, none_of, passed}
-use Rattle.order_machine.proofs.Kept.{Kept, OfReplica, OfRole, order_is, kept_put, kept_without_role, kept_showing, kept_ordering, kept_acknowledging, kept_noted, kept_begun, kept_activated, noting_found}
+use Rattle.order_machine.proofs.Kept.{Kept, OfRole, order_is, kept_put, kept_without_role, kept_showing, kept_ordering, kept_acknowledging, kept_noted, kept_begun, kept_activated, noting_found}
 
 -- ---- what holds at a place among the lines of an event
 

@@ -1,5 +1,5 @@
 -- Laws of the machine alone: what its events keep, and what holds at the end of every legal run of it.
-use Rattle.std.specs.Prelude.{◌≡◌, ℕ, ◌≤◌, true, List, ◌++◌, map, get_or, All, Option, Some}
+use Rattle.std.specs.Prelude.{◌≡◌, ℕ, ◌≤◌, true, List, ◌++◌, map, get_or, All, Some}
 use Rattle.std.specs.List.{IsDistinct}
 use Rattle.rc_base.specs.declared.ids.TxnId.{TxnId}
 use Rattle.script_text.specs.declared.event.Event.{Event}
