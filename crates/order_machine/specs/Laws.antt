@@ -1,12 +1,15 @@
 -- Laws of the machine alone: what its events keep, and what holds at the end of every legal run of it.
-use Rattle.std.specs.Prelude.{◌≡◌, ℕ, ◌≤◌, true, List, ◌++◌, map, get_or, All, Some}
+use Rattle.std.specs.Prelude.{◌≡◌, ℕ, ◌≤◌, true, List, [], ◌∷◌, ◌++◌, map, get_or, All, Some}
 use Rattle.std.specs.List.{IsDistinct}
 use Rattle.rc_base.specs.declared.ids.TxnId.{TxnId}
 use Rattle.script_text.specs.declared.event.Event.{Event}
+use Rattle.script_text.specs.declared.event.Event.TheVariants.{Boot, Begin, Commit}
 use Rattle.order_machine.specs.declared.observation.Observation.{Observation}
+use Rattle.order_machine.specs.declared.observation.Observation.TheVariants as says
 use Rattle.order_machine.specs.Ids.{is_txn, epoch_le}
 use Rattle.order_machine.specs.Order.{Entry, empty_order, length_of, holds}
 use Rattle.order_machine.specs.Machine.{Machine, Role, Txn, empty_machine, replica, order_of, txn_of, role_of, is_shown, is_acknowledged, ops_of}
+use Rattle.order_machine.specs.Rows.{first_epoch}
 use Rattle.order_machine.specs.Legal.{Filter, Step, IsBegun, moved, AreWhole, IsLegal, moved_all}
 
 -- ---- from any machine
@@ -67,3 +70,21 @@ OrdersAsked m = (loss : ℕ) → All (IsAsked m) (entries_of m loss)
 abbrev pub PrimariesShowAcknowledged : Machine → Type 0
 PrimariesShowAcknowledged m =
     (r : ℕ) (role : Role) → role_of m r ≡ Some role → role.active ≡ true → (t : TxnId) → is_acknowledged m t ≡ true → epoch_le t.epoch role.epoch ≡ true → is_shown m r t ≡ true
+
+-- ---- a run
+
+abbrev pub first_txn : TxnId
+first_txn = record { epoch = first_epoch; n = 1 }
+
+-- a world of one replica that commits a transaction without operations
+abbrev pub one_commit : List Step
+one_commit =
+    record { number = 1; event = Boot 0 (0 ∷ []); lines = says.Up 0 ∷ says.View 0 0 ∷ says.Active 0 ∷ says.Done ∷ [] }
+    ∷ record { number = 2; event = Begin 0; lines = says.Txn first_txn ∷ [] }
+    ∷ record { number = 3; event = Commit 0 first_txn; lines = says.Order first_txn [] ∷ says.View 0 1 ∷ says.Committed first_txn ∷ [] }
+    ∷ []
+
+-- such a run is whole, and so the laws are about some runs
+pub record OneCommitIsWhole : Type 0 where
+  pub whole : AreWhole [] empty_machine one_commit
+  pub acknowledged : is_acknowledged (moved_all empty_machine one_commit) first_txn ≡ true

@@ -32,3 +32,8 @@ pub fn asked_are_ordered()
 pub fn primaries_show_acknowledged()
     ensures { laws.InEachRun laws.PrimariesShowAcknowledged }
 {}
+
+/// A world of one replica commits a transaction: the laws of runs are about some.
+pub fn one_commit_is_whole()
+    ensures { laws.OneCommitIsWhole }
+{}
