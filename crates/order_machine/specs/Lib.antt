@@ -5,3 +5,4 @@ pub mod Answers
 pub mod Rows
 pub mod Legal
 pub mod Lines
+pub mod Laws

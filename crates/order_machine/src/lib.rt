@@ -2,10 +2,15 @@
 //! machine that every run is a run of, and which lines each event may have.
 #![tactic(auto)]
 
+mod laws;
 mod observation;
 mod observations;
 mod printing;
 
+pub use laws::{
+    acknowledged_are_ordered, asked_are_ordered, beginnings_are_shown, one_commit_is_whole,
+    orders_grow, primaries_show_acknowledged, whole_runs_are_legal,
+};
 pub use observation::Observation;
 pub use observations::Observations;
 pub use printing::print;
