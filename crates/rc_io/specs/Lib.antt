@@ -1,0 +1,6 @@
+pub mod Lines
+pub mod Limits
+pub mod Reader
+pub mod Reading
+pub mod Ready
+pub mod Window

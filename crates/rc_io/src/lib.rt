@@ -1,0 +1,15 @@
+//! The streams by which the store meets the outside: sources and sinks of bytes, in memory and over std's, and the
+//! reader that cuts a source into lines within the limits of a run.
+#![tactic(auto)]
+
+mod failed;
+mod line_reader;
+mod look;
+mod sink;
+mod source;
+mod window;
+
+pub use failed::Failed;
+pub use line_reader::{LineReader, Next};
+pub use sink::{Sink, write_all};
+pub use source::Source;
