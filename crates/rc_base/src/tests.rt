@@ -1,14 +1,34 @@
 use super::*;
 use std::test::*;
 
+fn replica(number: u8) -> Result<ReplicaId, Fail> {
+    Ok(ReplicaId::new(number).ok_or("a replica is below 9")?)
+}
+
+// The number of the replica that stands twice, or 9.
+fn twice_in(error: &MembersError) -> u8 {
+    match error {
+        MembersError::Twice { id } => id.number(),
+        MembersError::NoMemory => 9,
+    }
+}
+
 #[test]
 fn members_rise(rt: HostRuntime) -> Result<(), Fail> {
-    let one = ReplicaId::new(1).ok_or("1 is a replica")?;
-    let four = ReplicaId::new(4).ok_or("4 is a replica")?;
+    let (one, four) = (replica(1)?, replica(4)?);
     let members = Members::from_slice(rt.alloc(), &[four, one])?;
-    assert_eq!(rt; members.as_slice(), [one, four].as_slice());
-    let twice = Members::from_slice(rt.alloc(), &[four, one, one, four]);
-    assert!(rt; matches!(twice, Err(MembersError::Twice { id }) if id == four));
+    assert_eq!(rt; members.len(), 2);
+    assert!(rt; members.contains(one));
+    assert_eq!(rt; members.as_slice().first().map(|id| id.number()), Some(1));
+    Ok(())
+}
+
+#[test]
+fn the_first_that_stands_twice(rt: HostRuntime) -> Result<(), Fail> {
+    let (one, four) = (replica(1)?, replica(4)?);
+    let members = Members::from_slice(rt.alloc(), &[four, one, one, four]);
+    let twice = members.err().map(|e| twice_in(&e));
+    assert_eq!(rt; twice, Some(4));
     Ok(())
 }
 

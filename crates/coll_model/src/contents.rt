@@ -1,0 +1,168 @@
+ghost use Rattle.std.specs.Prelude.{◌≡◌, ◌↔◌, [], ◌∷◌, ◌++◌, length, drop, OnOk, OnErr, IsTrue, slice_get};
+ghost use Rattle.std.specs.Option.{option_copied};
+ghost use Rattle.coll_model.specs.Effect.{kind_of, fresh, at_key, with_key, without_key};
+
+use crate::op::Kind;
+use rc_base::{Bytes, NoMemory};
+use std::alloc::Global;
+use std::collections::{BTreeMap, VecDeque};
+use std::marker::Model;
+
+/// The pairs of a dictionary, by rising key. Contracts see the list of (key, value).
+#[derive(Drop)]
+pub struct Pairs {
+    pairs: BTreeMap<Bytes, Bytes>,
+}
+
+impl Model for Pairs {
+    ghost use Rattle.std.specs.Prelude.{ℕ, List};
+
+    ghost Value = { List (List ℕ × List ℕ) };
+
+    ghost view = { λ p. p.pairs.entries };
+}
+
+impl Pairs {
+    /// No pairs. It takes no memory.
+    pub fn new(alloc: Global) -> Pairs
+        ensures { result ≡ [] }
+    {
+        Pairs {
+            pairs: BTreeMap::new(alloc),
+        }
+    }
+
+    /// The value of the key.
+    pub fn get(&self, key: &Bytes) -> Option<&Bytes>
+        ensures { option_copied result ≡ at_key key.now self.now }
+    {
+        self.pairs.get(key)
+    }
+
+    /// How many they are.
+    pub fn len(&self) -> usize
+        ensures { result ≡ length self.now }
+    {
+        self.pairs.len()
+    }
+
+    pub fn is_empty(&self) -> bool
+        ensures { IsTrue result ↔ (self.now ≡ []) }
+    {
+        self.pairs.is_empty()
+    }
+
+    /// The key has the value.
+    ///
+    /// # Errors
+    /// `NoMemory`, and then the pairs are as before.
+    pub fn put(&mut self, key: &Bytes, value: &Bytes) -> Result<(), NoMemory>
+        ensures ok { OnOk result (self.new ≡ with_key key.now value.now self.old) }
+        ensures err { OnErr result (self.new ≡ self.old) }
+    {
+        self.pairs.insert(key.clone()?, value.clone()?)?;
+        Ok(())
+    }
+
+    /// The key goes. It takes no memory.
+    pub fn del(&mut self, key: &Bytes)
+        ensures { self.new ≡ without_key key.now self.old }
+    {
+        self.pairs.remove(key);
+    }
+}
+
+/// The values of a queue, from head to tail. Contracts see the list of them.
+#[derive(Drop)]
+pub struct Values {
+    values: VecDeque<Bytes>,
+}
+
+impl Model for Values {
+    ghost use Rattle.std.specs.Prelude.{ℕ, List};
+
+    ghost Value = { List (List ℕ) };
+
+    ghost view = { λ v. v.values.items };
+}
+
+impl Values {
+    /// No values. It takes no memory.
+    pub fn new(alloc: Global) -> Values
+        ensures { result ≡ [] }
+    {
+        Values {
+            values: VecDeque::new(alloc),
+        }
+    }
+
+    /// The value at a place, counted from 0 at the head.
+    pub fn get(&self, place: usize) -> Option<&Bytes>
+        ensures { option_copied result ≡ slice_get self.now place }
+    {
+        self.values.get(place)
+    }
+
+    /// How many they are.
+    pub fn len(&self) -> usize
+        ensures { result ≡ length self.now }
+    {
+        self.values.len()
+    }
+
+    pub fn is_empty(&self) -> bool
+        ensures { IsTrue result ↔ (self.now ≡ []) }
+    {
+        self.values.is_empty()
+    }
+
+    /// The value comes behind the tail.
+    ///
+    /// # Errors
+    /// `NoMemory`, and then the values are as before.
+    pub fn push(&mut self, value: &Bytes) -> Result<(), NoMemory>
+        ensures ok { OnOk result (self.new ≡ self.old ++ value.now ∷ []) }
+        ensures err { OnErr result (self.new ≡ self.old) }
+    {
+        self.values.push_back(value.clone()?)?;
+        Ok(())
+    }
+
+    /// The head goes, where there is one. It takes no memory.
+    pub fn pop(&mut self)
+        ensures { self.new ≡ drop 1 self.old }
+    {
+        self.values.pop_front();
+    }
+}
+
+/// What is in a collection.
+#[derive(Drop)]
+pub enum Contents {
+    /// A dictionary's pairs, by rising key.
+    Dict(Pairs),
+    /// A queue's values, from head to tail.
+    Queue(Values),
+}
+
+impl Contents {
+    /// A new collection of the kind, with nothing in it. It takes no memory.
+    pub fn new(alloc: Global, kind: Kind) -> Contents
+        ensures { result ≡ fresh kind }
+    {
+        match kind {
+            Kind::Dict => Contents::Dict(Pairs::new(alloc)),
+            Kind::Queue => Contents::Queue(Values::new(alloc)),
+        }
+    }
+
+    /// What the collection is.
+    pub fn kind(&self) -> Kind
+        ensures { result ≡ kind_of self.now }
+    {
+        match self {
+            Contents::Dict(_) => Kind::Dict,
+            Contents::Queue(_) => Kind::Queue,
+        }
+    }
+}

@@ -1,0 +1,11 @@
+//! The collections of a store as one value: named dictionaries and queues, the operations on them, and what each
+//! operation does.
+#![tactic(auto)]
+
+mod contents;
+mod op;
+mod ops;
+
+pub use contents::{Contents, Pairs, Values};
+pub use op::{Kind, Op};
+pub use ops::Ops;
