@@ -7,6 +7,7 @@ use Rattle.std.proofs.Math.Seq.{take-append-add}
 use borrow.Rule.Slice.PartMut.{put_mid, post_of}
 use Rattle.std.specs.List.{copy_within}
 use Rattle.std.specs.Option.{ForSome, option_map}
+use Rattle.rc_base.specs.Counts.{Counted, Rose}
 use Rattle.rc_io.specs.Window.{Takes}
 use Rattle.std.specs.Io.KnownBytes.{append_known}
 
@@ -75,3 +76,7 @@ takes_same n bytes left' old new t = ap (λ q. q ++ drop n bytes) t.held ∙ (ap
 
 pub same_from_front : (xs ys : List ℕ) (n : ℕ) → take (length xs) ys ≡ xs → length ys ≡ length xs + n → n ≡ 0 → ys ≡ xs
 same_from_front xs ys n h l z = sym (take_all (length xs) ys (omega arith)) ∙ h
+
+-- a fault that comes later in a call
+pub counted-later : (before mid now : ℕ) (told : Type 0) → before ≤ mid → mid ≤ now → Rose mid now → Counted before now told
+counted-later before mid now told a b r = record { later = omega (arith, a, b); rose = λ _. omega (arith, a, r) }
