@@ -25,7 +25,11 @@ pub trait Sink {
         ensures cause { Counted (faults self.old) (faults self.new) (IsErr result) };
 }
 
-/// stand-in
+/// Writes all the bytes, in as many calls as the sink needs. It takes no memory.
+///
+/// # Errors
+/// `Failed` only where the sink's count of faults rose. The sink then holds besides only a part of the bytes from
+/// their front, and not all.
 pub fn write_all<K: Sink>(sink: &mut K, bytes: &[u8]) -> Result<(), Failed>
     ensures all { OnOk result (K.holds sink.new ≡ append_known (K.holds sink.old) bytes.now) }
     ensures part { OnErr result ((n : ℕ) × (n < length bytes.now) × (K.holds sink.new ≡ append_known (K.holds sink.old) (take n bytes.now))) }
