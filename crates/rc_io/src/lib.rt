@@ -4,6 +4,7 @@
 
 mod calls;
 mod failed;
+mod host;
 mod line_reader;
 mod look;
 mod mem_sink;
@@ -14,6 +15,7 @@ mod std_streams;
 mod window;
 
 pub use failed::Failed;
+pub use host::Host;
 pub use line_reader::{LineReader, Next};
 pub use mem_sink::MemSink;
 pub use mem_source::MemSource;

@@ -47,6 +47,7 @@ impl<T: Drop> From<AllocFailed<T>> for WriteError {
 // Writes a text.
 fn write_text<K: Sink>(sink: &mut K, bytes: &[u8]) -> Result<(), WriteError>
     ensures writes { Writes bytes.now (K.holds sink.old) (K.holds sink.new) result }
+    ensures memory { IsErrOf result WriteError.NoMemory → ⊥ }
     ensures cause { Counted (K.faults sink.old) (K.faults sink.new) (IsErrOf result WriteError.Failed) }
 {
     match write_all(sink, bytes) {

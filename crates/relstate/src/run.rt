@@ -1,4 +1,5 @@
 ghost use Rattle.std.specs.Prelude.{◌≡◌, ◌≢◌, ◌↔◌, ◌++◌, ◌∷◌, [], ◌<◌, ◌≤◌, ◌⊎◌, ℕ, List, map, codes, string_bytes, vec_len, Some, None, IsTrue, IfNone, IfSome, length, ◌+◌};
+ghost use Rattle.std.specs.Vec.{VecUnchanged};
 ghost use Rattle.rc_base.specs.Counts.{Counted};
 ghost use Rattle.relstate.specs.Text as text;
 ghost use Rattle.relstate.specs.Ran.{Ran, Begins};
@@ -55,7 +56,7 @@ pub fn run<S: Source, K: Sink, M: CrashDisk, H: Host>(
     ensures sink_fault { Counted (K.faults sink.old) (K.faults sink.new) (result ≡ 5) }
 
     // No disk is called yet.
-    ensures disks { fleet.new.items ≡ fleet.old.items }
+    ensures disks { VecUnchanged fleet.old fleet.new }
     ensures folders { host.new ≡ host.old }
 {
     let _ = host;
@@ -93,7 +94,7 @@ fn run_world<S: Source, K: Sink, M: CrashDisk>(
         HasEnded input held result (K.holds sink.new) }
     ensures source_fault { Counted (S.faults source.old) (S.faults source.new) (result ≡ 4) }
     ensures sink_fault { Counted (K.faults sink.old) (K.faults sink.new) (result ≡ 5) }
-    ensures disks { fleet.new.items ≡ fleet.old.items }
+    ensures disks { VecUnchanged fleet.old fleet.new }
 {
     let Ok(mut reader) = LineReader::new(alloc) else {
         return 8;
@@ -147,7 +148,7 @@ fn do_line<K: Sink, M: CrashDisk>(
     ensures last { IfNone result (world.new.last ≤ number) }
     ensures status { IfSome result (λ status. (status ≢ 0) × (status ≢ 2) × (status ≢ 4)) }
     ensures sink_fault { Counted (K.faults sink.old) (K.faults sink.new) (result ≡ Some 5) }
-    ensures disks { fleet.new.items ≡ fleet.old.items }
+    ensures disks { VecUnchanged fleet.old fleet.new }
 {
     match read_event(alloc, line) {
         Ok(None) => None,
@@ -176,7 +177,7 @@ fn do_event<K: Sink, M: CrashDisk>(
     ensures last { IfNone result (world.new.last ≡ number) }
     ensures status { IfSome result (λ status. (status ≢ 0) × (status ≢ 2) × (status ≢ 4)) }
     ensures sink_fault { Counted (K.faults sink.old) (K.faults sink.new) (result ≡ Some 5) }
-    ensures disks { fleet.new.items ≡ fleet.old.items }
+    ensures disks { VecUnchanged fleet.old fleet.new }
 {
     let lines = match world.event(fleet, number, event) {
         Ok(lines) => lines,

@@ -1,4 +1,5 @@
 ghost use Rattle.std.specs.Prelude.{◌≡◌, ◌<◌, ◌≤◌, ◌+◌, List, [], ◌∷◌, IfOk, OnOk, OnErr, Err, IsErrOf, false, true, None, Some, vec_len};
+ghost use Rattle.std.specs.Vec.{VecUnchanged};
 ghost use Rattle.script_text.specs.Sentence.{IsBuilt};
 ghost use Rattle.order_machine.specs.declared.observation.Observation.{Observation};
 ghost use Rattle.order_machine.specs.Machine.{Machine, empty_machine};
@@ -82,7 +83,7 @@ impl World {
         requires within { number ≤ 1000000 }
         ensures serves { Serves self.old self.new event.now result }
         ensures last { OnOk result (self.new.last ≡ number) }
-        ensures disks { fleet.new.items ≡ fleet.old.items }
+        ensures disks { VecUnchanged fleet.old fleet.new }
     {
         let _ = fleet;
         match event {
