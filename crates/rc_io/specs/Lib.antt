@@ -1,4 +1,6 @@
 pub mod Calls
+pub mod Folders
+pub mod Hosts
 pub mod Lines
 pub mod Limits
 pub mod Memory

@@ -1,5 +1,5 @@
 -- A source and a sink in memory.
-use Rattle.std.specs.Prelude.{ℕ, ◌-◌, min, List, length, Option, Some, None}
+use Rattle.std.specs.Prelude.{ℕ, ◌-◌, min, List, Option, Some, None}
 use Rattle.rc_io.specs.Calls.{Turns}
 
 -- what a source has left, and its calls

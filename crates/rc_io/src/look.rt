@@ -13,6 +13,7 @@ const LINE: usize = 4_096;
 
 const BYTES: u64 = 16_777_216;
 
+#[derive(Clone, Copy)]
 pub(crate) enum Ready {
     // The line with its LF has this many bytes.
     Line(usize),
