@@ -44,38 +44,63 @@ pub closes : (input held now : List ℕ) (before left : List (List ℕ)) (world 
     (d : Done input held before left world now) → Ends ending before (moved_all empty_machine d.steps) left → IsStatusOf ending status →
     Writes (closing ending (length before + 1)) (Some now) holds result → HasEnded input held (status_of result status) holds
 closes input held now before left world holds ending status (Ok t) d e s w =
-    let text = transcript_of d.steps ++ closing ending (length before + 1) in
-    (text,
-    w ∙ ap Some (ap (λ xs. xs ++ closing ending (length before + 1)) d.text ∙ append_assoc held (transcript_of d.steps) (closing ending (length before + 1))),
-    record { before = before; left = left; steps = d.steps; ending = ending; lines = d.cut; spelled = d.spelled; whole = d.whole; ended = e; text = inl (s, refl) })
+    let text = transcript_of d.steps ++ closing ending (length before + 1) in (
+      text,
+      w ∙ ap Some (ap (λ xs. xs ++ closing ending (length before + 1)) d.text ∙ append_assoc held (transcript_of d.steps) (closing ending (length before + 1))),
+      record { before = before; left = left; steps = d.steps; ending = ending; lines = d.cut; spelled = d.spelled; whole = d.whole; ended = e; text = inl (s, refl) },
+    )
 closes input held now before left world holds ending status (Err Failed) d e s w =
     let last = closing ending (length before + 1) in
-    let part = take w.0 last in
-    (transcript_of d.steps ++ part,
-    w.1 ∙ ap Some (ap (λ xs. xs ++ part) d.text ∙ append_assoc held (transcript_of d.steps) part),
-    record {
-      before = before; left = left; steps = d.steps; ending = ending; lines = d.cut; spelled = d.spelled; whole = d.whole; ended = e;
-      text = inr (refl, (drop w.0 last, append_assoc (transcript_of d.steps) part (drop w.0 last) ∙ ap (λ xs. transcript_of d.steps ++ xs) (take-append-drop w.0 last)));
-    })
-closes input held now before left world holds ending status (Err NoMemory) d e s w =
-    (transcript_of d.steps,
-    w ∙ ap Some d.text,
-    record {
-      before = before; left = left; steps = d.steps; ending = CutShort; lines = d.cut; spelled = d.spelled; whole = d.whole; ended = tt;
-      text = inl (inr refl, sym (append-nil (transcript_of d.steps)));
-    })
+    let part = take w.0 last in (
+      transcript_of d.steps ++ part,
+      w.1 ∙ ap Some (ap (λ xs. xs ++ part) d.text ∙ append_assoc held (transcript_of d.steps) part),
+      record {
+        before = before;
+        left = left;
+        steps = d.steps;
+        ending = ending;
+        lines = d.cut;
+        spelled = d.spelled;
+        whole = d.whole;
+        ended = e;
+        text = inr (refl, (drop w.0 last, append_assoc (transcript_of d.steps) part (drop w.0 last) ∙ ap (λ xs. transcript_of d.steps ++ xs) (take-append-drop w.0 last)));
+      },
+    )
+closes input held now before left world holds ending status (Err NoMemory) d e s w = (
+  transcript_of d.steps,
+  w ∙ ap Some d.text,
+  record {
+    before = before;
+    left = left;
+    steps = d.steps;
+    ending = CutShort;
+    lines = d.cut;
+    spelled = d.spelled;
+    whole = d.whole;
+    ended = tt;
+    text = inl (inr refl, sym (append-nil (transcript_of d.steps)));
+  },
+)
 
 -- the run ends with nothing more to write
 pub stops : (input held now : List ℕ) (before left : List (List ℕ)) (world : Kept) (holds : Option (List ℕ)) (ending : Ending) (status : ℕ) →
     (d : Done input held before left world now) → Ends ending before (moved_all empty_machine d.steps) left → IsStatusOf ending status → closing ending (length before + 1) ≡ [] →
     holds ≡ Some now → HasEnded input held status holds
-stops input held now before left world holds ending status d e s c h =
-    (transcript_of d.steps,
-    h ∙ ap Some d.text,
-    record {
-      before = before; left = left; steps = d.steps; ending = ending; lines = d.cut; spelled = d.spelled; whole = d.whole; ended = e;
-      text = inl (s, sym (ap (λ xs. transcript_of d.steps ++ xs) c ∙ append-nil (transcript_of d.steps)));
-    })
+stops input held now before left world holds ending status d e s c h = (
+  transcript_of d.steps,
+  h ∙ ap Some d.text,
+  record {
+    before = before;
+    left = left;
+    steps = d.steps;
+    ending = ending;
+    lines = d.cut;
+    spelled = d.spelled;
+    whole = d.whole;
+    ended = e;
+    text = inl (s, sym (ap (λ xs. transcript_of d.steps ++ xs) c ∙ append-nil (transcript_of d.steps)));
+  },
+)
 
 -- ---- one line
 
@@ -114,16 +139,29 @@ pub event_cut_off : (input held now : List ℕ) (before left : List (List ℕ)) 
 unfolding after_event
 event_cut_off input held now before left raw old new holds number event lines n d spells at serves w =
     let text = lines_text number lines in
-    let all : Done input held (before ++ raw ∷ []) left new (now ++ text) = after_event input held now (now ++ text) before left raw old new number event lines d spells at serves refl in
-    (transcript_of d.steps ++ take n text,
-    w ∙ ap Some (ap (λ xs. xs ++ take n text) d.text ∙ append_assoc held (transcript_of d.steps) (take n text)),
-    record {
-      before = before ++ raw ∷ []; left = left; steps = all.steps; ending = CutShort; lines = all.cut; spelled = all.spelled; whole = all.whole; ended = tt;
-      text = inr (refl, (drop n text,
-        append_assoc (transcript_of d.steps) (take n text) (drop n text)
-        ∙ ap (λ xs. transcript_of d.steps ++ xs) (take-append-drop n text)
-        ∙ sym (append-nil (transcript_of all.steps) ∙ written_more d.steps (step_of number event lines))));
-    })
+    let all : Done input held (before ++ raw ∷ []) left new (now ++ text) = after_event input held now (now ++ text) before left raw old new number event lines d spells at serves refl in (
+      transcript_of d.steps ++ take n text,
+      w ∙ ap Some (ap (λ xs. xs ++ take n text) d.text ∙ append_assoc held (transcript_of d.steps) (take n text)),
+      record {
+        before = before ++ raw ∷ [];
+        left = left;
+        steps = all.steps;
+        ending = CutShort;
+        lines = all.cut;
+        spelled = all.spelled;
+        whole = all.whole;
+        ended = tt;
+        text = inr (
+          refl,
+          (
+            drop n text,
+            append_assoc (transcript_of d.steps) (take n text) (drop n text)
+                ∙ ap (λ xs. transcript_of d.steps ++ xs) (take-append-drop n text)
+                ∙ sym (append-nil (transcript_of all.steps) ∙ written_more d.steps (step_of number event lines)),
+          ),
+        );
+      },
+    )
 
 -- ---- between two lines
 
@@ -173,6 +211,8 @@ ends_at_limit input held now before left world old holds number status which {T}
 
 -- nothing was done for want of memory
 pub nothing_done : (input held : List ℕ) (holds : Option (List ℕ)) → holds ≡ Some held → HasEnded input held 8 holds
-nothing_done input held holds h =
-    ([], h ∙ ap Some (sym (append-nil held)),
-    record { before = []; left = raw_lines input; steps = []; ending = CutShort; lines = refl; spelled = tt; whole = tt; ended = tt; text = inl (inr refl, refl) })
+nothing_done input held holds h = (
+  [],
+  h ∙ ap Some (sym (append-nil held)),
+  record { before = []; left = raw_lines input; steps = []; ending = CutShort; lines = refl; spelled = tt; whole = tt; ended = tt; text = inl (inr refl, refl) },
+)

@@ -105,7 +105,14 @@ fn run_world<S: Source, K: Sink, M: CrashDisk>(
     loop {
         match reader.next(source) {
             Next::Line { number, bytes } => {
-                if let Some(status) = do_line(alloc, &mut world, sink, fleet, number, bytes.as_slice()) {
+                if let Some(status) = do_line(
+                    alloc,
+                    &mut world,
+                    sink,
+                    fleet,
+                    number,
+                    bytes.as_slice(),
+                ) {
                     return status;
                 }
             }

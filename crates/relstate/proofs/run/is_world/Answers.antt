@@ -17,13 +17,15 @@ pub returns-in-len1 : goal.returns-in-len1
 returns-in-len1 c =
     let world : List ℕ = 119 ∷ 111 ∷ 114 ∷ 108 ∷ 100 ∷ [] in
     let words = one_word c.args.words.now c.word-item.result c.in-len1.len_at_least c.in-len1.len_below c.word-item.is in
-    let tells = bytes_decides c.as_str.result.now world in
-    (λ yes. words ∙ ap (λ (b : List ℕ). b ∷ []) (sym c.as_str.ensures.value ∙ tells.0 (sym c.eq.ensures ∙ is_true _ yes)),
-    λ same. true_is _ (c.eq.ensures ∙ tells.1 (c.as_str.ensures.value ∙ head_same _ _ (sym words ∙ same))))
+    let tells = bytes_decides c.as_str.result.now world in (
+      λ yes. words ∙ ap (λ (b : List ℕ). b ∷ []) (sym c.as_str.ensures.value ∙ tells.0 (sym c.eq.ensures ∙ is_true _ yes)),
+      λ same. true_is _ (c.eq.ensures ∙ tells.1 (c.as_str.ensures.value ∙ head_same _ _ (sym words ∙ same))),
+    )
   where
     is_true : (b : Bool) → IsTrue b → b ≡ true
     is_true true h = refl
     is_true false h = h
+
     true_is : (b : Bool) → b ≡ true → IsTrue b
     true_is true h = refl
     true_is false h = h

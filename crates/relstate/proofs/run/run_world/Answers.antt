@@ -18,9 +18,9 @@ returns-in-Some-clause-ran g c = λ input held l h.
     let told = c.in-Line.ensures.told at.0 at.2 in
     let n = c.in-Line.ensures.numbers in
     c.in-Some.ensures.done input held at.1 r.before (raw_lines (c.next.new.self.ahead ++ told.0)) told.2.raw
-        (c.as_slice.ensures ∙ told.2.text_is)
-        (n.0 ∙ ap (λ k. k + 1) (sym r.counted))
-        (at_line input held _ _ at.1 _ _ c.loop-number.world _ r told.2) at.3
+    (c.as_slice.ensures ∙ told.2.text_is)
+    (n.0 ∙ ap (λ k. k + 1) (sym r.counted))
+    (at_line input held _ _ at.1 _ _ c.loop-number.world _ r told.2) at.3
 
 pub loop-number-preserved : goal.loop-number-preserved
 loop-number-preserved g c =
@@ -33,14 +33,14 @@ loop-number-preserved g c =
       source = let later = c.in-Line.ensures.cause.later in let before = was.source in omega arith;
       sink = let later = done.sink_fault.later in let before = was.sink in omega arith;
       reached = λ input held l h.
-        let at = was.reached input held l h in
-        let r = at.4 in
-        let told = c.in-Line.ensures.told at.0 at.2 in
-        let went = done.done input held at.1 r.before (raw_lines (c.next.new.self.ahead ++ told.0)) told.2.raw
-            (c.as_slice.ensures ∙ told.2.text_is)
-            (n.0 ∙ ap (λ k. k + 1) (sym r.counted))
-            (at_line input held _ _ at.1 _ _ c.loop-number.world _ r told.2) at.3 in
-        (told.0, went.0, told.1, went.1, next_reached input held _ _ at.1 went.0 _ _ c.loop-number.world c.do_line.new.world _ r told.2 (n.1 ∙ n.0) went.2);
+          let at = was.reached input held l h in
+          let r = at.4 in
+          let told = c.in-Line.ensures.told at.0 at.2 in
+          let went = done.done input held at.1 r.before (raw_lines (c.next.new.self.ahead ++ told.0)) told.2.raw
+          (c.as_slice.ensures ∙ told.2.text_is)
+          (n.0 ∙ ap (λ k. k + 1) (sym r.counted))
+          (at_line input held _ _ at.1 _ _ c.loop-number.world _ r told.2) at.3 in
+          (told.0, went.0, told.1, went.1, next_reached input held _ _ at.1 went.0 _ _ c.loop-number.world c.do_line.new.world _ r told.2 (n.1 ∙ n.0) went.2);
     }
 
 pub returns-in-End-clause-ran : goal.returns-in-End-clause-ran
@@ -58,8 +58,8 @@ returns-in-Limit-clause-ran g c = λ input held l h.
     let n = c.in-Limit.ensures.numbers in
     let ahead = c.loop-number.reader.ahead ++ at.0 in
     ends_at_limit input held at.1 r.before (raw_lines ahead) c.loop-number.world _ _ c.in-Limit.number c.ended.result c.in-Limit.which c.write_limit.result r.done
-        (ap (λ k. limit_of k (sum_by length r.before) (raw_lines ahead)) r.counted ∙ ap (λ k. limit_of c.loop-number.reader.lines k (raw_lines ahead)) r.given ∙ told.2.0)
-        (n.0 ∙ ap (λ k. k + 1) (sym r.counted)) at.3 c.write_limit.ensures.writes c.ended.ensures
+    (ap (λ k. limit_of k (sum_by length r.before) (raw_lines ahead)) r.counted ∙ ap (λ k. limit_of c.loop-number.reader.lines k (raw_lines ahead)) r.given ∙ told.2.0)
+    (n.0 ∙ ap (λ k. k + 1) (sym r.counted)) at.3 c.write_limit.ensures.writes c.ended.ensures
 
 pub returns-in-Failed-clause-ran : goal.returns-in-Failed-clause-ran
 returns-in-Failed-clause-ran g c = λ input held l h.
