@@ -1,10 +1,12 @@
-ghost use Rattle.std.specs.Prelude.{◌≡◌, ◌↔◌, [], ◌∷◌, ◌++◌, length, drop, OnOk, OnErr, IsTrue, slice_get};
+ghost use Rattle.std.specs.Map.Iter.{ShowsInOrder, deref_pair};
+ghost use Rattle.std.specs.Prelude.{◌≡◌, ℕ, List, ◌↔◌, [], ◌∷◌, ◌++◌, length, drop, OnOk, OnErr, IsTrue, slice_get};
 ghost use Rattle.std.specs.Option.{option_copied};
-ghost use Rattle.coll_model.specs.Effect.{kind_of, fresh, at_key, with_key, without_key};
+ghost use Rattle.coll_model.specs.Effect.{kind_of, fresh, at_key, with_key, without_key, put, del, push, pop};
 
 use crate::op::Kind;
 use rc_base::{Bytes, NoMemory};
-use std::alloc::Global;
+use std::alloc::{AllocError, Global};
+use std::collections::btree_map::Iter;
 use std::collections::{BTreeMap, VecDeque};
 use std::marker::Model;
 
@@ -52,6 +54,14 @@ impl Pairs {
         self.pairs.is_empty()
     }
 
+    /// The pairs, by rising key.
+    pub fn iter(&self) -> Iter<'_, Bytes, Bytes>
+        ensures rest { result ≡ self.now }
+        ensures runs { ShowsInOrder (deref_pair {K = List ℕ} {X = List ℕ}) }
+    {
+        self.pairs.iter()
+    }
+
     /// The key has the value.
     ///
     /// # Errors
@@ -69,6 +79,17 @@ impl Pairs {
         ensures { self.new ≡ without_key key.now self.old }
     {
         self.pairs.remove(key);
+    }
+}
+
+impl Clone for Pairs {
+    ghost is_clone = { λ x y. y ≡ x };
+
+    #[tactic(auto, using(std::proofs::lemmas::Map::Entries::entries_from_clone))]
+    fn clone(&self) -> Result<Pairs, AllocError> {
+        Ok(Pairs {
+            pairs: self.pairs.clone()?,
+        })
     }
 }
 
@@ -136,6 +157,16 @@ impl Values {
     }
 }
 
+impl Clone for Values {
+    ghost is_clone = { λ x y. y ≡ x };
+
+    fn clone(&self) -> Result<Values, AllocError> {
+        Ok(Values {
+            values: self.values.clone()?,
+        })
+    }
+}
+
 /// What is in a collection.
 #[derive(Drop)]
 pub enum Contents {
@@ -164,5 +195,56 @@ impl Contents {
             Contents::Dict(_) => Kind::Dict,
             Contents::Queue(_) => Kind::Queue,
         }
+    }
+
+    // The key of a dictionary has the value. A queue stays.
+    pub(crate) fn put(&mut self, key: &Bytes, value: &Bytes) -> Result<(), NoMemory>
+        ensures ok { OnOk result (self.new ≡ put key.now value.now self.old) }
+        ensures err { OnErr result (self.new ≡ self.old) }
+    {
+        match self {
+            Contents::Dict(pairs) => pairs.put(key, value),
+            Contents::Queue(_) => Ok(()),
+        }
+    }
+
+    // The key of a dictionary goes. A queue stays.
+    pub(crate) fn del(&mut self, key: &Bytes)
+        ensures { self.new ≡ del key.now self.old }
+    {
+        if let Contents::Dict(pairs) = self {
+            pairs.del(key);
+        }
+    }
+
+    // The value comes behind a queue's tail. A dictionary stays.
+    pub(crate) fn push(&mut self, value: &Bytes) -> Result<(), NoMemory>
+        ensures ok { OnOk result (self.new ≡ push value.now self.old) }
+        ensures err { OnErr result (self.new ≡ self.old) }
+    {
+        match self {
+            Contents::Queue(values) => values.push(value),
+            Contents::Dict(_) => Ok(()),
+        }
+    }
+
+    // The head of a queue goes. A dictionary stays.
+    pub(crate) fn pop(&mut self)
+        ensures { self.new ≡ pop self.old }
+    {
+        if let Contents::Queue(values) = self {
+            values.pop();
+        }
+    }
+}
+
+impl Clone for Contents {
+    ghost is_clone = { λ x y. y ≡ x };
+
+    fn clone(&self) -> Result<Contents, AllocError> {
+        Ok(match self {
+            Contents::Dict(pairs) => Contents::Dict(pairs.clone()?),
+            Contents::Queue(values) => Contents::Queue(values.clone()?),
+        })
     }
 }

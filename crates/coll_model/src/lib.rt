@@ -5,7 +5,12 @@
 mod contents;
 mod op;
 mod ops;
+mod state;
 
 pub use contents::{Contents, Pairs, Values};
 pub use op::{Kind, Op};
 pub use ops::Ops;
+pub use state::State;
+
+#[cfg(test)]
+mod tests;

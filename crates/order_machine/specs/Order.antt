@@ -1,5 +1,5 @@
 -- The order of committed transactions: a start, and the entries that were added to it.
-use Rattle.std.specs.Prelude.{ℕ, ◌+◌, ◌-◌, Bool, List, [], length, take, flat_map, not, take_while}
+use Rattle.std.specs.Prelude.{ℕ, ◌+◌, ◌-◌, Bool, List, [], ◌∷◌, length, take, flat_map, if◌then◌else◌}
 use Rattle.std.specs.List.{list_any}
 use Rattle.rc_base.specs.declared.ids.TxnId.{TxnId}
 use Rattle.coll_model.specs.declared.op.Op.{Op}
@@ -38,4 +38,5 @@ holds entries t = list_any (λ e. is_txn t e.txn) entries
 
 -- the entries before that of the transaction
 abbrev pub before : TxnId → List Entry → List Entry
-before t entries = take_while (λ e. not (is_txn t e.txn)) entries
+before t [] = []
+before t (e ∷ entries) = if is_txn t e.txn then [] else e ∷ before t entries

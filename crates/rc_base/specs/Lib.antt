@@ -1,3 +1,4 @@
 pub mod Counts
+pub mod Fields
 pub mod Members
 pub mod Quorum

@@ -3,6 +3,7 @@
 #![tactic(auto)]
 
 mod bytes;
+mod fields;
 mod ids;
 mod limit_name;
 mod members;
@@ -11,6 +12,7 @@ mod no_memory;
 mod quorum;
 
 pub use bytes::Bytes;
+pub use fields::{Bad, Fields, put_bytes, put_short, put_u8, put_u32, put_u64, put_u128};
 pub use ids::{Epoch, Lsn, ReplicaId, TxnId};
 pub use limit_name::LimitName;
 pub use members::{Members, MembersError};

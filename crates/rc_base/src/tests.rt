@@ -49,3 +49,27 @@ fn bytes_in_order(rt: HostRuntime) -> Result<(), Fail> {
     assert_eq!(rt; name.clone()?.into_vec().as_slice(), b"d".as_slice());
     Ok(())
 }
+
+#[test]
+fn fields_again(rt: HostRuntime) -> Result<(), Fail> {
+    let mut out = Vec::new(rt.alloc());
+    put_u8(&mut out, 7)?;
+    put_u32(&mut out, 258)?;
+    put_u64(&mut out, 1)?;
+    put_u128(&mut out, 2)?;
+    put_bytes(&mut out, b"kv")?;
+    put_short(&mut out, b"d")?;
+    assert_eq!(rt; out.len(), 37);
+    assert_eq!(rt; &out[..5], [7, 0, 0, 1, 2].as_slice());
+    assert_eq!(rt; &out[29..], [0, 0, 0, 2, b'k', b'v', 1, b'd'].as_slice());
+    let mut fields = Fields::new(&out);
+    assert_eq!(rt; fields.take_u8(), Ok(7));
+    assert_eq!(rt; fields.take_u32(), Ok(258));
+    assert_eq!(rt; fields.take_u64(), Ok(1));
+    assert_eq!(rt; fields.take_u128(), Ok(2));
+    assert_eq!(rt; fields.take_bytes(1), Err(Bad { at: 29 }));
+    assert_eq!(rt; fields.take_bytes(2), Ok(b"kv".as_slice()));
+    assert_eq!(rt; fields.take_short(255), Ok(b"d".as_slice()));
+    assert_eq!(rt; fields.take_u8(), Err(Bad { at: 37 }));
+    Ok(())
+}

@@ -2,10 +2,14 @@
 #![tactic(auto)]
 
 mod event;
+mod forms;
 mod read;
 mod replicas;
+mod words;
 
 pub use event::Event;
 pub use read::{ScriptError, read_event};
 pub use replicas::Replicas;
 
+#[cfg(test)]
+mod tests;

@@ -1,0 +1,4 @@
+pub mod Areas
+pub mod Bytes
+pub mod Images
+pub mod Steps

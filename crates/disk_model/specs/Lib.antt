@@ -1,0 +1,4 @@
+pub mod Changes
+pub mod Disk
+pub mod Kept
+pub mod Laws
