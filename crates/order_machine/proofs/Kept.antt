@@ -62,7 +62,7 @@ shown_is m k r t = ap (λ o. holds (first_of o (replica m r).show) t) (order_is 
 
 -- ---- the start of a world
 
-never_put : (r : ℕ) → get_or (replicate 9 never_opened) r never_opened ≡ never_opened
+pub never_put : (r : ℕ) → get_or (replicate 9 never_opened) r never_opened ≡ never_opened
 never_put r =
     elim (cases_lt r 9) [
       | inl lt ↦ get_or-replicate 9 r never_opened never_opened lt

@@ -1,7 +1,5 @@
 -- A run that commits one transaction, line by line.
 use Rattle.std.proofs.Common.{◌≡◌, ◌∙◌, ℕ, zero, suc, ◌≤◌, Bool, true, false, not, ◌&&◌, ◌||◌, cond, eqb, List, [], ◌∷◌, replicate, get_or, Some, None, refl, sym, ap, subst, inl, inr, arith}
-use Rattle.std.specs.Prelude.{option_and_then}
-use Rattle.std.specs.List.{list_all}
 use Rattle.std.specs.Option.{option_map_or}
 use Rattle.std.proofs.lemmas.Bool.{false≢true, cases_lt, and_right}
 use Rattle.std.proofs.lemmas.List.{get_or-replicate, get_or_past, length-replicate}
@@ -11,9 +9,10 @@ use Rattle.script_text.specs.declared.event.Event.TheVariants.{Boot, Begin, Comm
 use Rattle.order_machine.specs.declared.observation.Observation.{Observation}
 use Rattle.order_machine.specs.declared.observation.Observation.TheVariants as says
 use Rattle.order_machine.specs.Ids.{is_txn}
-use Rattle.order_machine.specs.Machine.{Machine, Replica, Txn, empty_machine, never_opened, replica, role_of, has_role, appointment_of, configs_of, is_alone, is_active, is_pending}
+use Rattle.order_machine.specs.Machine.{Machine, Replica, Txn, empty_machine, never_opened, replica, role_of, has_role, is_active, is_pending}
 use Rattle.order_machine.specs.Rows.{HoldsBehind, first_epoch, new_role}
 use Rattle.order_machine.specs.Legal.{IsWhole, moved}
+use Rattle.order_machine.proofs.Behind.{not_alone}
 use Rattle.order_machine.specs.Laws.{first_txn, OneCommitIsWhole}
 
 -- ---- the other replicas
@@ -27,10 +26,6 @@ never_put r =
 
 no_role : (m : Machine) (first : Replica) → m.replicas ≡ first ∷ replicate 8 never_opened → (r : ℕ) → role_of m (suc r) ≡ None
 no_role m first e r = ap (λ xs. (get_or xs (suc r) never_opened).role) e ∙ ap (λ x. x.role) (never_put r)
-
-not_alone : (m : Machine) (r : ℕ) → role_of m r ≡ None → is_alone m r ≡ true → ⊥
-not_alone m r none h =
-    false≢true (sym (ap (λ o. option_map_or (λ a. list_all (λ c. list_all (λ member. eqb member r) c) (configs_of a)) (option_and_then (λ role. appointment_of m role.epoch) o) false) none) ∙ h)
 
 -- behind an event with nothing pending, in a world of replica 0
 holds_behind : (m : Machine) (first : Replica) → m.replicas ≡ first ∷ replicate 8 never_opened → is_active m 0 ≡ true → ((r : ℕ) (t : TxnId) → is_pending m r t ≡ false) → HoldsBehind m

@@ -9,7 +9,7 @@ use Rattle.order_machine.specs.declared.observation.Observation.TheVariants as s
 use Rattle.order_machine.specs.Ids.{is_txn, epoch_le}
 use Rattle.order_machine.specs.Order.{Entry, empty_order, length_of, holds}
 use Rattle.order_machine.specs.Machine.{Machine, Role, Txn, empty_machine, replica, order_of, txn_of, role_of, is_shown, is_acknowledged, ops_of}
-use Rattle.order_machine.specs.Rows.{first_epoch}
+use Rattle.order_machine.specs.Rows.{first_epoch, HoldsBehind}
 use Rattle.order_machine.specs.Legal.{Filter, Step, IsBegun, moved, AreWhole, IsLegal, moved_all}
 
 -- ---- from any machine
@@ -70,6 +70,11 @@ OrdersAsked m = (loss : ℕ) → All (IsAsked m) (entries_of m loss)
 abbrev pub PrimariesShowAcknowledged : Machine → Type 0
 PrimariesShowAcknowledged m =
     (r : ℕ) (role : Role) → role_of m r ≡ Some role → role.active ≡ true → (t : TxnId) → is_acknowledged m t ≡ true → epoch_le t.epoch role.epoch ≡ true → is_shown m r t ≡ true
+
+-- Behind a run whose events are all whole nothing that is pending at a replica is shown there, and a primary that is alone
+-- in its configurations is active and has nothing pending.
+abbrev pub WholeRunsLeaveNothingOpen : Type 0
+WholeRunsLeaveNothingOpen = (filters : List Filter) (steps : List Step) → AreWhole filters empty_machine steps → HoldsBehind (moved_all empty_machine steps)
 
 -- ---- a run
 

@@ -1,11 +1,11 @@
 -- How observations print. Each has one text: its words, with one space between each two, behind its event's number.
-use Rattle.std.specs.Prelude.{ℕ, List, [], ◌∷◌, ◌++◌, map, flat_map, codes, decimal}
+use Rattle.std.specs.Prelude.{◌≡◌, ◌≢◌, ℕ, ◌<◌, ◌^◌, All, List, [], ◌∷◌, ◌++◌, map, flat_map, codes, decimal}
 use Rattle.std.specs.List.{join_with_byte}
 use Rattle.coll_model.specs.declared.op.Kind.{Kind}
 use Rattle.coll_model.specs.declared.op.Kind.TheVariants as kinds
 use Rattle.coll_model.specs.declared.op.Op.{Op}
 use Rattle.coll_model.specs.declared.op.Op.TheVariants.{Make, Unmake, Put, Del, Push, Pop}
-use Rattle.script_text.specs.Sentence.{txn_text}
+use Rattle.script_text.specs.Sentence.{txn_text, IsTxn}
 use Rattle.order_machine.specs.declared.observation.Observation.{Observation}
 use Rattle.order_machine.specs.declared.observation.Observation.TheVariants as says
 use Rattle.order_machine.specs.Legal.{Step}
@@ -51,3 +51,36 @@ lines_text number lines = flat_map (λ o. line_text number o ++ 10 ∷ []) lines
 
 abbrev pub transcript_of : List Step → List ℕ
 transcript_of steps = flat_map (λ s. lines_text s.number s.lines) steps
+
+-- ---- which lines are read back
+
+-- a word that may stand in an operation: it holds no space, no colon and no LF
+abbrev pub IsPlain : List ℕ → Type 0
+IsPlain word = All (λ letter. (letter ≢ 32) × (letter ≢ 58) × (letter ≢ 10)) word
+
+abbrev pub IsPlainOp : Op → Type 0
+IsPlainOp (Make name kind) = IsPlain name
+IsPlainOp (Unmake name) = IsPlain name
+IsPlainOp (Put name key value) = IsPlain name × IsPlain key × IsPlain value
+IsPlainOp (Del name key) = IsPlain name × IsPlain key
+IsPlainOp (Push name value) = IsPlain name × IsPlain value
+IsPlainOp (Pop name) = IsPlain name
+
+-- the line's numbers are below 2 ^ 64, or what a transaction has, and its names, keys and values are plain
+abbrev pub IsPrintable : Observation → Type 0
+IsPrintable (says.Up r) = r < 2 ^ 64
+IsPrintable (says.Order t ops) = IsTxn t × All IsPlainOp ops
+IsPrintable (says.View r n) = (r < 2 ^ 64) × (n < 2 ^ 64)
+IsPrintable (says.Active r) = r < 2 ^ 64
+IsPrintable (says.Committed t) = IsTxn t
+IsPrintable (says.Txn t) = IsTxn t
+IsPrintable says.Done = Unit {0}
+IsPrintable (says.Refused part) = part < 2 ^ 64
+IsPrintable (says.Down r) = r < 2 ^ 64
+IsPrintable (says.NotActive r) = r < 2 ^ 64
+IsPrintable (says.Ended t) = IsTxn t
+
+-- a line that was printed is that of one number and one observation
+abbrev pub LinesReadOnce : Type 0
+LinesReadOnce =
+    (n k : ℕ) (a b : Observation) → n < 2 ^ 64 → k < 2 ^ 64 → IsPrintable a → IsPrintable b → line_text n a ≡ line_text k b → (n ≡ k) × (a ≡ b)

@@ -1,4 +1,5 @@
 ghost use Rattle.order_machine.specs.Laws as laws;
+ghost use Rattle.order_machine.specs.Lines as lines;
 
 /// The order of committed transactions is only ever added to, at its end: by each event, whatever the machine it
 /// meets, and so by each run.
@@ -33,7 +34,18 @@ pub fn primaries_show_acknowledged()
     ensures { laws.InEachRun laws.PrimariesShowAcknowledged }
 {}
 
+/// Between events a primary that is alone has acknowledged all that was asked of it, and no replica shows a transaction
+/// whose client still waits.
+pub fn whole_runs_leave_nothing_open()
+    ensures { laws.WholeRunsLeaveNothingOpen }
+{}
+
 /// A world of one replica commits a transaction: the laws of runs are about some.
 pub fn one_commit_is_whole()
     ensures { laws.OneCommitIsWhole }
+{}
+
+/// A printed line has one reading: its number and its observation can be told from its text.
+pub fn lines_read_once()
+    ensures { lines.LinesReadOnce }
 {}

@@ -8,8 +8,9 @@ mod observations;
 mod printing;
 
 pub use laws::{
-    acknowledged_are_ordered, asked_are_ordered, beginnings_are_shown, one_commit_is_whole,
-    orders_grow, primaries_show_acknowledged, whole_runs_are_legal,
+    acknowledged_are_ordered, asked_are_ordered, beginnings_are_shown, lines_read_once,
+    one_commit_is_whole, orders_grow, primaries_show_acknowledged, whole_runs_are_legal,
+    whole_runs_leave_nothing_open,
 };
 pub use observation::Observation;
 pub use observations::Observations;
