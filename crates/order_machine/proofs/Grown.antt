@@ -1,0 +1,103 @@
+-- Each line leaves the orders as they are, or adds an entry to one.
+use Rattle.std.proofs.Common.{◌≡◌, ◌∙◌, ℕ, true, false, ◌&&◌, List, [], ◌∷◌, ◌++◌, get_or, set, length, append-nil, append_assoc, Option, Some, None, refl, sym, ap, inl, inr}
+use Rattle.std.specs.Prelude.{is_some}
+use Rattle.std.specs.Option.{option_map_or}
+use Rattle.std.proofs.lemmas.Bool.{cond_both, cases_lt, cases_eq}
+use Rattle.std.proofs.lemmas.List.{get_or-set_same, get_or-set_other, set_past}
+use Rattle.rc_base.specs.declared.ids.TxnId.{TxnId}
+use Rattle.coll_model.specs.declared.op.Op.{Op}
+use Rattle.script_text.specs.declared.event.Event.{Event}
+use Rattle.script_text.specs.declared.event.Event.TheVariants.{Boot, Begin, Commit}
+use Rattle.order_machine.specs.declared.observation.Observation.{Observation}
+use Rattle.order_machine.specs.declared.observation.Observation.TheVariants as says
+use Rattle.order_machine.specs.Order.{Entry, Order, empty_order}
+use Rattle.order_machine.specs.Machine.{Machine, Role, Txn, replica, put_role, put_txn, role_of, txn_of, order_of, is_active, is_live}
+use Rattle.order_machine.specs.Answers.{answered_at}
+use Rattle.order_machine.specs.Rows.{Position, event_primary, first_epoch, opened, asking, after, ordering, showing, with_first_role, new_role, now_active, activated}
+use Rattle.order_machine.specs.Legal.{Filter, Step, behind, IsBegun, moved, IsLegal, moved_all}
+use Rattle.order_machine.specs.Laws.{entries_of, OrdersGrow}
+use Rattle.order_machine.proofs.Runs.{begun_from_whole, moved_by}
+
+-- ---- growth
+
+grow_same : (m n : Machine) → n.orders ≡ m.orders → OrdersGrow m n
+grow_same m n e loss = ([], ap (λ os. (get_or os loss empty_order).entries) e ∙ sym (append-nil (entries_of m loss)))
+
+grow_more : (m n o : Machine) → OrdersGrow m n → OrdersGrow n o → OrdersGrow m o
+grow_more m n o first then loss =
+    let a = first loss in
+    let b = then loss in
+    (a.0 ++ b.0, b.1 ∙ (ap (λ es. es ++ b.0) a.1 ∙ append_assoc (entries_of m loss) a.0 b.0))
+
+-- ---- lines
+
+same_first_role : (m : Machine) (event : Event) (mounts : List ℕ) → (with_first_role m event mounts).orders ≡ m.orders
+same_first_role m (Boot p members) [] = cond_both (replica m p).up (put_role m p (Some (new_role first_epoch))) m (λ x. x.orders ≡ m.orders) (λ _. refl) (λ _. refl)
+same_first_role m (Boot p members) (q ∷ mounts) = refl
+same_first_role m (Begin r) mounts = refl
+same_first_role m (Commit r t) mounts = refl
+
+same_noted : (m : Machine) (f : Txn → Txn) (t : TxnId) (o : Option Txn) → (option_map_or (λ x. put_txn m t (f x)) o m).orders ≡ m.orders
+same_noted m f t None = refl
+same_noted m f t (Some x) = refl
+
+same_active : (m : Machine) (r : ℕ) (o : Option Role) → (option_map_or (activated m r) o m).orders ≡ m.orders
+same_active m r None = refl
+same_active m r (Some role) = refl
+
+same_answered : (m : Machine) (event : Event) (o : Observation) → (answered_at m (event_primary event) event o).orders ≡ m.orders
+same_answered m (Boot p members) o = refl
+same_answered m (Commit r t) o = same_noted m (λ x. record x { calls = x.calls ++ record { call = Commit r t; answer = o; op = None } ∷ [] }) t (txn_of m t)
+same_answered m (Begin r) (says.Txn t) = refl
+same_answered m (Begin r) _ = refl
+
+grow_ordering : (m : Machine) (r : ℕ) (t : TxnId) (ops : List Op) → OrdersGrow m (ordering m r t ops)
+grow_ordering m r t ops loss =
+    let at = (replica m r).loss in
+    let e : Entry = record { txn = t; ops = ops } in
+    let old = order_of m r in
+    let new : Order = record old { entries = old.entries ++ e ∷ [] } in
+    elim (cases_eq loss at) [
+      | inl same ↦ elim (cases_lt at (length m.orders)) [
+        | inl lt ↦ (e ∷ [], ap (λ l. (get_or (set m.orders at new) l empty_order).entries) same ∙ (ap (λ o. o.entries) (get_or-set_same m.orders at new empty_order lt) ∙ ap (λ l. entries_of m l ++ e ∷ []) (sym same)))
+        | inr le ↦ ([], ap (λ os. (get_or os loss empty_order).entries) (set_past m.orders at new le) ∙ sym (append-nil (entries_of m loss)))
+      ]
+      | inr apart ↦ ([], ap (λ o. o.entries) (get_or-set_other m.orders at loss new empty_order apart) ∙ sym (append-nil (entries_of m loss)))
+    ]
+
+grow_line : (p : Position) (o : Observation) → OrdersGrow p.machine (after p o).machine
+grow_line p (says.Order t ops) = grow_ordering p.machine (event_primary p.event) t ops
+grow_line p (says.View r n) = grow_same p.machine (after p (says.View r n)).machine
+    (cond_both (is_some p.opening) (record p { machine = with_first_role (showing p.machine r n) p.event p.mounts; opening = None }) (record p { machine = showing p.machine r n; growing = false }) (λ q. q.machine.orders ≡ p.machine.orders) (λ _. same_first_role (showing p.machine r n) p.event p.mounts) (λ _. refl))
+grow_line p (says.Active r) = grow_same p.machine (now_active p.machine r) (same_active p.machine r (role_of p.machine r))
+grow_line p (says.Up r) = grow_same p.machine (after p (says.Up r)).machine refl
+grow_line p (says.Committed t) = grow_same p.machine (after p (says.Committed t)).machine refl
+grow_line p says.Done = grow_same p.machine p.machine refl
+grow_line p (says.Refused part) = grow_same p.machine p.machine refl
+grow_line p (says.Txn t) = grow_same p.machine (after p (says.Txn t)).machine (same_answered p.machine p.event (says.Txn t))
+grow_line p (says.Down r) = grow_same p.machine (after p (says.Down r)).machine (same_answered p.machine p.event (says.Down r))
+grow_line p (says.NotActive r) = grow_same p.machine (after p (says.NotActive r)).machine (same_answered p.machine p.event (says.NotActive r))
+grow_line p (says.Ended t) = grow_same p.machine (after p (says.Ended t)).machine (same_answered p.machine p.event (says.Ended t))
+
+-- ---- events and runs
+
+grow_opened : (m : Machine) (event : Event) → OrdersGrow m (opened m event).machine
+grow_opened m (Boot p members) = grow_same m (opened m (Boot p members)).machine refl
+grow_opened m (Begin r) = grow_same m m refl
+grow_opened m (Commit r t) = grow_same m (asking m r t)
+    (cond_both (is_active m r && is_live m r t) (option_map_or (λ x. put_txn m t (record x { live = false; asked = true })) (txn_of m t) m) m (λ x. x.orders ≡ m.orders) (λ _. same_noted m (λ x. record x { live = false; asked = true }) t (txn_of m t)) (λ _. refl))
+
+grow_lines : (p : Position) (lines : List Observation) → OrdersGrow p.machine (behind p lines).machine
+grow_lines p [] = grow_same p.machine p.machine refl
+grow_lines p (o ∷ lines) = grow_more p.machine (after p o).machine (behind (after p o) lines).machine (grow_line p o) (grow_lines (after p o) lines)
+
+pub grow_moved : (m : Machine) (event : Event) (lines : List Observation) → IsBegun m event lines → OrdersGrow m (moved m event lines)
+grow_moved m event lines h = moved_by (OrdersGrow m) m event lines h (grow_same m m refl)
+    (λ _ _. grow_more m (opened m event).machine (behind (opened m event) lines).machine (grow_opened m event) (grow_lines (opened m event) lines))
+
+pub grow_run : (filters : List Filter) (m : Machine) (steps : List Step) → IsLegal filters m steps → OrdersGrow m (moved_all m steps)
+grow_run filters m [] h = grow_same m m refl
+grow_run filters m (s ∷ []) h = grow_moved m s.event s.lines h
+grow_run filters m (s ∷ t ∷ steps) h =
+    let next = moved m s.event s.lines in
+    grow_more m next (moved_all next (t ∷ steps)) (grow_moved m s.event s.lines (begun_from_whole m s.event s.lines h.0)) (grow_run filters next (t ∷ steps) h.1)

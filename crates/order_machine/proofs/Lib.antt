@@ -1,0 +1,11 @@
+pub mod Behind
+pub mod Grown
+pub mod Ids
+pub mod Kept
+pub mod Lists
+pub mod OneCommit
+pub mod Opened
+pub mod Reading
+pub mod Runs
+pub mod Steps
+pub mod Words

@@ -1,0 +1,8 @@
+pub mod Ids
+pub mod Order
+pub mod Machine
+pub mod Answers
+pub mod Rows
+pub mod Legal
+pub mod Lines
+pub mod Laws

@@ -1,0 +1,306 @@
+-- The lines of an event, one after another: where each may come, and what it changes.
+use Rattle.std.specs.Prelude.{◌≡◌, ℕ, ◌+◌, ◌<◌, ◌≤◌, Bool, true, false, not, ◌&&◌, ◌||◌, ◌==◌, nat_le, if◌then◌else◌, List, [], ◌∷◌, ◌++◌, drop, filter, Option, Some, None, is_some, is_none}
+use Rattle.std.specs.Option.{option_map_or}
+use Rattle.std.specs.List.{list_any}
+use Rattle.rc_base.specs.declared.ids.Epoch.{Epoch}
+use Rattle.rc_base.specs.declared.ids.TxnId.{TxnId}
+use Rattle.rc_base.specs.Members.{first_twice}
+use Rattle.coll_model.specs.declared.op.Op.{Op}
+use Rattle.script_text.specs.declared.event.Event.{Event}
+use Rattle.script_text.specs.declared.event.Event.TheVariants.{Boot, Begin, Commit}
+use Rattle.order_machine.specs.declared.observation.Observation.{Observation}
+use Rattle.order_machine.specs.declared.observation.Observation.TheVariants as says
+use Rattle.order_machine.specs.Ids.{is_txn, is_epoch, epoch_le}
+use Rattle.order_machine.specs.Order.{length_of, state_at, holds, before}
+use Rattle.order_machine.specs.Machine.{Machine, Replica, Role, Txn, Appointment, replica, put_replica, order_of, put_order, txn_of, put_txn, role_of, put_role, is_booted, is_active, is_alone, is_shown, is_acknowledged, is_live, is_pending, ops_of}
+use Rattle.order_machine.specs.Answers.{answer, answered_at, Replays}
+
+-- ---- what an event's lines are about
+
+-- The place within the lines of an event: the machine as it is there; the event; the answer to a client call, as it
+-- was when the event began; whether the event's answer stands; the rank of the last line; the replica whose `up`
+-- stands, so that its `view` is next; whether an `order` stands, so that more of them or a `view` are next; and the
+-- members that `boot` still has to open.
+pub record Position : Type 0 where
+  pub machine : Machine
+  pub event : Event
+  pub client : Option Observation
+  pub answered : Bool
+  pub rank : ℕ
+  pub opening : Option ℕ
+  pub growing : Bool
+  pub mounts : List ℕ
+
+-- the replica whose clients an event may answer
+abbrev pub event_primary : Event → ℕ
+event_primary (Boot p members) = p
+event_primary (Begin r) = r
+event_primary (Commit r t) = r
+
+-- whether the replica takes a step in the event
+abbrev pub is_actor : Event → ℕ → Bool
+is_actor (Boot p members) r = list_any (λ member. member == r) members
+is_actor (Begin at) r = at == r
+is_actor (Commit at t) r = at == r
+
+-- ---- refusals
+
+-- members that are distinct, 1 to 9, and hold their primary
+abbrev pub are_members : ℕ → List ℕ → Bool
+are_members p members = list_any (λ member. member == p) members && is_none (first_twice members)
+
+-- the one line of an event that the machine's state refuses: before the boot each other event, and then a second boot
+abbrev pub refusal : Machine → Event → Option Observation
+refusal m (Boot p members) =
+    if is_booted m then Some (says.Refused 9) else (if are_members p members then None else Some (says.Refused 2))
+refusal m (Begin r) = if is_booted m then None else Some (says.Refused 9)
+refusal m (Commit r t) = if is_booted m then None else Some (says.Refused 9)
+
+-- ---- the beginning of an event
+
+abbrev pub first_epoch : Epoch
+first_epoch = record { loss = 0; number = 1 }
+
+-- the members by rising number
+abbrev pub in_order : List ℕ → List ℕ
+in_order members =
+    filter (λ r. list_any (λ member. member == r) members) (0 ∷ 1 ∷ 2 ∷ 3 ∷ 4 ∷ 5 ∷ 6 ∷ 7 ∷ 8 ∷ [])
+
+-- the machine as a boot begins: the first appointment, with its members as both configurations
+abbrev pub booting : Machine → ℕ → List ℕ → Machine
+booting m p members = record m {
+  appointments = record { epoch = first_epoch; primary = p; previous = members; current = members; dropped = false; was_active = false } ∷ [];
+  config = members;
+}
+
+-- the machine as a live transaction's commit is asked
+abbrev pub asking : Machine → ℕ → TxnId → Machine
+asking m r t =
+    if is_active m r && is_live m r t
+    then option_map_or (λ x. put_txn m t (record x { live = false; asked = true })) (txn_of m t) m
+    else m
+
+abbrev pub at_start : Machine → Event → Option Observation → List ℕ → Position
+at_start m event client mounts = record {
+  machine = m;
+  event = event;
+  client = client;
+  answered = false;
+  rank = 0;
+  opening = None;
+  growing = false;
+  mounts = mounts;
+}
+
+-- where an event that isn't refused begins
+abbrev pub opened : Machine → Event → Position
+opened m (Boot p members) = at_start (booting m p members) (Boot p members) None (in_order members)
+opened m (Begin r) = at_start m (Begin r) (answer m r (Begin r)) []
+opened m (Commit r t) = at_start (asking m r t) (Commit r t) (answer m r (Commit r t)) []
+
+-- ---- the order of lines
+
+-- Within a step the ranks don't fall, and `view` and `active` come once.
+abbrev pub rank_of : Observation → ℕ
+rank_of (says.Up r) = 0
+rank_of (says.Order t ops) = 2
+rank_of (says.View r n) = 3
+rank_of (says.Active r) = 4
+rank_of (says.Committed t) = 5
+rank_of _ = 6
+
+abbrev pub comes_once : Observation → Bool
+comes_once (says.View r n) = true
+comes_once (says.Active r) = true
+comes_once _ = false
+
+abbrev pub is_in_rank : ℕ → Observation → Bool
+is_in_rank rank o = nat_le (if comes_once o then rank + 1 else rank) (rank_of o)
+
+-- behind `up r` its `view` is next, and behind `order` another one or a `view`
+abbrev pub is_next : Position → Observation → Bool
+is_next p (says.View r n) = option_map_or (λ opening. opening == r) p.opening true
+is_next p (says.Order t ops) = is_none p.opening
+is_next p _ = is_none p.opening && not p.growing
+
+-- ---- the rows
+
+-- a replica is opened: in a boot, the members that are down, one after another
+abbrev pub MayOpen : Position → ℕ → Type 0
+MayOpen p r = ((replica p.machine r).up ≡ false) × ((rest : List ℕ) × (p.mounts ≡ r ∷ rest))
+
+-- the next transaction of the order: its commit was asked, its operations are all of its own, and its answers are
+-- those of a replay at its place
+pub record MayOrder (p : Position) (t : TxnId) (ops : List Op) : Type 0 where
+  pub txn : Txn
+  pub known : txn_of p.machine t ≡ Some txn
+  pub new : holds (order_of p.machine (event_primary p.event)).entries t ≡ false
+  pub asked : txn.asked ≡ true
+  pub whole : ops ≡ ops_of txn
+  pub replays : let order = order_of p.machine (event_primary p.event) in Replays (state_at order (length_of order)) txn.calls
+
+-- a replica shows more: it was opened, or it is a primary
+pub record MayShow (p : Position) (r n : ℕ) : Type 0 where
+  pub within : n ≤ length_of (order_of p.machine r)
+  pub all_that_grew : p.growing ≡ true → n ≡ length_of (order_of p.machine r)
+  pub more : p.opening ≡ None → (replica p.machine r).show < n
+  pub primary : p.opening ≡ None → is_some (role_of p.machine r) ≡ true
+  pub acts : is_actor p.event r ≡ true
+
+-- a primary becomes active: it shows each transaction that was acknowledged up to its epoch
+pub record MayBeActive (p : Position) (r : ℕ) : Type 0 where
+  pub role : Role
+  pub has : role_of p.machine r ≡ Some role
+  pub not_yet : role.active ≡ false
+  pub shows : (t : TxnId) → is_acknowledged p.machine t ≡ true → epoch_le t.epoch role.epoch ≡ true → is_shown p.machine r t ≡ true
+  pub acts : is_actor p.event r ≡ true
+
+-- A transaction is acknowledged to its client at the event's primary: it is pending and shown there, no other that is
+-- pending there stands before it in the order, and each active primary of its epoch or a later one shows it.
+pub record MayCommit (p : Position) (t : TxnId) : Type 0 where
+  pub pending : is_pending p.machine (event_primary p.event) t ≡ true
+  pub shown : is_shown p.machine (event_primary p.event) t ≡ true
+  pub first : (u : TxnId) → holds (before t (order_of p.machine (event_primary p.event)).entries) u ≡ true → is_pending p.machine (event_primary p.event) u ≡ false
+  pub elsewhere : (q : ℕ) (role : Role) → role_of p.machine q ≡ Some role → role.active ≡ true → epoch_le t.epoch role.epoch ≡ true → is_shown p.machine q t ≡ true
+
+-- the answer to a client call is the one that it had as the event began
+abbrev pub MayAnswer : Position → Observation → Type 0
+MayAnswer p o = (p.client ≡ Some o) × (p.answered ≡ false)
+
+-- an event of the world was done: a boot, once its members are opened and its primary has its role
+abbrev pub MayBeDone : Position → Event → Type 0
+MayBeDone p (Boot primary members) = (p.mounts ≡ []) × (is_some (role_of p.machine primary) ≡ true) × (p.answered ≡ false)
+MayBeDone p (Begin r) = ⊥
+MayBeDone p (Commit r t) = ⊥
+
+-- the row of each line
+abbrev pub Row : Position → Observation → Type 0
+Row p (says.Up r) = MayOpen p r
+Row p (says.Order t ops) = MayOrder p t ops
+Row p (says.View r n) = MayShow p r n
+Row p (says.Active r) = MayBeActive p r
+Row p (says.Committed t) = MayCommit p t
+Row p (says.Txn t) = MayAnswer p (says.Txn t)
+Row p says.Done = MayBeDone p p.event
+Row p (says.Refused part) = ⊥
+Row p (says.Down r) = MayAnswer p (says.Down r)
+Row p (says.NotActive r) = MayAnswer p (says.NotActive r)
+Row p (says.Ended t) = MayAnswer p (says.Ended t)
+
+-- which lines an event has at all
+abbrev pub is_named : Event → Observation → Bool
+is_named (Boot p members) (says.Up r) = true
+is_named (Boot p members) (says.View r n) = true
+is_named (Boot p members) (says.Active r) = true
+is_named (Boot p members) says.Done = true
+is_named (Boot p members) _ = false
+is_named (Begin r) (says.Txn t) = true
+is_named (Begin r) (says.Down q) = true
+is_named (Begin r) (says.NotActive q) = true
+is_named (Begin r) _ = false
+is_named (Commit r t) (says.Order u ops) = true
+is_named (Commit r t) (says.View q n) = true
+is_named (Commit r t) (says.Active q) = true
+is_named (Commit r t) (says.Committed u) = true
+is_named (Commit r t) (says.Ended u) = true
+is_named (Commit r t) (says.Down q) = true
+is_named (Commit r t) (says.NotActive q) = true
+is_named (Commit r t) _ = false
+
+-- the line may be the next one of the event
+pub record May (p : Position) (o : Observation) : Type 0 where
+  pub named : is_named p.event o ≡ true
+  pub in_rank : is_in_rank p.rank o ≡ true
+  pub next : is_next p o ≡ true
+  pub row : Row p o
+
+-- ---- what a line changes
+
+abbrev pub up_again : Replica → Replica
+up_again r = record r { up = true; role = None }
+
+abbrev pub new_role : Epoch → Role
+new_role epoch = record { epoch = epoch; active = false; begins = 0; idle = [] }
+
+-- behind the last mount of a boot its primary, where it is up, has the role of the first epoch
+abbrev pub with_first_role : Machine → Event → List ℕ → Machine
+with_first_role m (Boot p members) [] = if (replica m p).up then put_role m p (Some (new_role first_epoch)) else m
+with_first_role m (Boot p members) (r ∷ rs) = m
+with_first_role m (Begin r) mounts = m
+with_first_role m (Commit r t) mounts = m
+
+abbrev pub showing : Machine → ℕ → ℕ → Machine
+showing m r n = put_replica m r (record (replica m r) { show = n })
+
+abbrev pub ordering : Machine → ℕ → TxnId → List Op → Machine
+ordering m r t ops = let order = order_of m r in put_order m r (record order { entries = order.entries ++ record { txn = t; ops = ops } ∷ [] })
+
+-- the appointment of the epoch notes that its primary was active
+abbrev pub noting_active : Epoch → List Appointment → List Appointment
+noting_active e [] = []
+noting_active e (a ∷ others) = (if is_epoch e a.epoch then record a { was_active = true } else a) ∷ noting_active e others
+
+abbrev pub activated : Machine → ℕ → Role → Machine
+activated m r role = record (put_role m r (Some (record role { active = true }))) { appointments = noting_active role.epoch m.appointments }
+
+abbrev pub now_active : Machine → ℕ → Machine
+now_active m r = option_map_or (activated m r) (role_of m r) m
+
+abbrev pub acknowledging : Machine → TxnId → Machine
+acknowledging m t = record m { acknowledged = t ∷ m.acknowledged }
+
+-- whether `committed T` answers the event
+abbrev pub is_asked_commit : Event → TxnId → Bool
+is_asked_commit (Boot p members) t = false
+is_asked_commit (Begin r) t = false
+is_asked_commit (Commit r asked) t = is_txn asked t
+
+abbrev pub answering : Position → Observation → Position
+answering p o = record p { machine = answered_at p.machine (event_primary p.event) p.event o; answered = true }
+
+abbrev pub changed : Position → Observation → Position
+changed p (says.Up r) = record p { machine = put_replica p.machine r (up_again (replica p.machine r)); opening = Some r; mounts = drop 1 p.mounts }
+changed p (says.Order t ops) = record p { machine = ordering p.machine (event_primary p.event) t ops; growing = true }
+changed p (says.View r n) =
+    if is_some p.opening
+    then record p { machine = with_first_role (showing p.machine r n) p.event p.mounts; opening = None }
+    else record p { machine = showing p.machine r n; growing = false }
+changed p (says.Active r) = record p { machine = now_active p.machine r }
+changed p (says.Committed t) = record p { machine = acknowledging p.machine t; answered = p.answered || is_asked_commit p.event t }
+changed p says.Done = record p { answered = true }
+changed p (says.Refused part) = record p { answered = true }
+changed p (says.Txn t) = answering p (says.Txn t)
+changed p (says.Down r) = answering p (says.Down r)
+changed p (says.NotActive r) = answering p (says.NotActive r)
+changed p (says.Ended t) = answering p (says.Ended t)
+
+-- the rank behind a line: a mount is a step of its own
+abbrev pub next_rank : Position → Observation → ℕ
+next_rank p (says.View r n) = if is_some p.opening then 0 else 3
+next_rank p o = rank_of o
+
+abbrev pub after : Position → Observation → Position
+after p o = record (changed p o) { rank = next_rank p o }
+
+-- ---- the end of an event
+
+-- the lines so far can be all of the event
+pub record IsComplete (p : Position) : Type 0 where
+  pub opened : p.opening ≡ None
+  pub grown : p.growing ≡ false
+  pub mounted : p.mounts ≡ []
+  pub answered : p.answered ≡ true
+
+-- What holds behind each event: what is pending at a replica isn't shown there, and a primary that is alone in its
+-- configurations is active and has nothing pending.
+pub record HoldsBehind (m : Machine) : Type 0 where
+  pub not_shown : (r : ℕ) (t : TxnId) → is_pending m r t ≡ true → is_shown m r t ≡ false
+  pub alone : (r : ℕ) → is_alone m r ≡ true → (is_active m r ≡ true) × ((t : TxnId) → is_pending m r t ≡ false)
+
+-- ---- events that are not built at a machine
+
+-- A second transaction beside a live one waits for locks.
+abbrev pub IsUnbuilt : Machine → Event → Type 0
+IsUnbuilt m (Boot p members) = ⊥
+IsUnbuilt m (Begin r) = (refusal m (Begin r) ≡ None) × (is_active m r ≡ true) × ((t : TxnId) × (is_live m r t ≡ true))
+IsUnbuilt m (Commit r t) = ⊥

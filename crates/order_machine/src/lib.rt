@@ -1,0 +1,20 @@
+//! What a transcript may be: the observations and how they print, the one order of committed transactions, the
+//! machine that every run is a run of, and which lines each event may have.
+#![tactic(auto)]
+
+mod laws;
+mod observation;
+mod observations;
+mod printing;
+
+pub use laws::{
+    acknowledged_are_ordered, asked_are_ordered, beginnings_are_shown, lines_read_once,
+    one_commit_is_whole, orders_grow, primaries_show_acknowledged, whole_runs_are_legal,
+    whole_runs_leave_nothing_open,
+};
+pub use observation::Observation;
+pub use observations::Observations;
+pub use printing::print;
+
+#[cfg(test)]
+mod tests;

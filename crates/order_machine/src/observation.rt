@@ -1,0 +1,30 @@
+use coll_model::Ops;
+use rc_base::{ReplicaId, TxnId};
+
+/// A line of the transcript behind its event's number. There is one variant for each form of line that is built so
+/// far, with the line's words as its fields, in order.
+#[derive(Debug, Drop)]
+pub enum Observation {
+    /// `up r`: r was opened.
+    Up(ReplicaId),
+    /// `order T ops`: T is the next transaction of the order, with these operations.
+    Order(TxnId, Ops),
+    /// `view r n`: r shows the first n transactions of the order.
+    View(ReplicaId, u64),
+    /// `active r`: r is active as primary.
+    Active(ReplicaId),
+    /// `committed T`: T is acknowledged to its client.
+    Committed(TxnId),
+    /// `txn T`: T begins.
+    Txn(TxnId),
+    /// `ok`: the event was done.
+    Done,
+    /// `refused part`: the event breaks this part of its rule, and nothing was done.
+    Refused(u8),
+    /// `down r`: r isn't open.
+    Down(ReplicaId),
+    /// `notactive r`: r isn't an active primary.
+    NotActive(ReplicaId),
+    /// `ended T`: T isn't live at the replica.
+    Ended(TxnId),
+}

@@ -1,0 +1,106 @@
+use super::*;
+use coll_model::{Kind, Op, Ops};
+use rc_base::{Bytes, Epoch, Name, NoMemory, ReplicaId, TxnId};
+use std::alloc::Global;
+use std::test::*;
+
+fn replica(number: u8) -> Result<ReplicaId, Fail> {
+    Ok(ReplicaId::new(number).ok_or("a replica is below 9")?)
+}
+
+fn txn(n: u64) -> TxnId {
+    TxnId {
+        epoch: Epoch { loss: 0, number: 1 },
+        n,
+    }
+}
+
+fn name(alloc: Global) -> Result<Name, NoMemory> {
+    Name::from_slice(alloc, b"d")
+}
+
+fn key(alloc: Global) -> Result<Bytes, NoMemory> {
+    Bytes::from_slice(alloc, b"k")
+}
+
+fn value(alloc: Global) -> Result<Bytes, NoMemory> {
+    Bytes::from_slice(alloc, b"v")
+}
+
+// one operation of each form
+fn each_op(alloc: Global) -> Result<Ops, NoMemory> {
+    let mut ops = Ops::new(alloc);
+    ops.push(Op::Make(name(alloc)?, Kind::Dict))?;
+    ops.push(Op::Make(name(alloc)?, Kind::Queue))?;
+    ops.push(Op::Put(name(alloc)?, key(alloc)?, value(alloc)?))?;
+    ops.push(Op::Del(name(alloc)?, key(alloc)?))?;
+    ops.push(Op::Push(name(alloc)?, value(alloc)?))?;
+    ops.push(Op::Pop(name(alloc)?))?;
+    ops.push(Op::Unmake(name(alloc)?))?;
+    Ok(ops)
+}
+
+fn line(alloc: Global, observation: Observation) -> Result<Vec<u8>, NoMemory> {
+    let mut out = Vec::new(alloc);
+    print(1_000_000, &observation, &mut out)?;
+    Ok(out)
+}
+
+#[test]
+fn lines_of_steps(rt: HostRuntime) -> Result<(), Fail> {
+    let up = line(rt.alloc(), Observation::Up(replica(8)?))?;
+    assert_eq!(rt; up.as_slice(), b"1000000 up 8".as_slice());
+    let view = line(rt.alloc(), Observation::View(replica(0)?, 12))?;
+    assert_eq!(rt; view.as_slice(), b"1000000 view 0 12".as_slice());
+    let active = line(rt.alloc(), Observation::Active(replica(0)?))?;
+    assert_eq!(rt; active.as_slice(), b"1000000 active 0".as_slice());
+    let committed = line(rt.alloc(), Observation::Committed(txn(10)))?;
+    assert_eq!(rt;
+        committed.as_slice(),
+        b"1000000 committed 0.1.10".as_slice()
+    );
+    Ok(())
+}
+
+#[test]
+fn lines_of_answers(rt: HostRuntime) -> Result<(), Fail> {
+    let begun = line(rt.alloc(), Observation::Txn(txn(2)))?;
+    assert_eq!(rt; begun.as_slice(), b"1000000 txn 0.1.2".as_slice());
+    let done = line(rt.alloc(), Observation::Done)?;
+    assert_eq!(rt; done.as_slice(), b"1000000 ok".as_slice());
+    let refused = line(rt.alloc(), Observation::Refused(9))?;
+    assert_eq!(rt; refused.as_slice(), b"1000000 refused 9".as_slice());
+    let down = line(rt.alloc(), Observation::Down(replica(1)?))?;
+    assert_eq!(rt; down.as_slice(), b"1000000 down 1".as_slice());
+    let not_active = line(rt.alloc(), Observation::NotActive(replica(1)?))?;
+    assert_eq!(rt; not_active.as_slice(), b"1000000 notactive 1".as_slice());
+    let ended = line(rt.alloc(), Observation::Ended(txn(2)))?;
+    assert_eq!(rt; ended.as_slice(), b"1000000 ended 0.1.2".as_slice());
+    Ok(())
+}
+
+#[test]
+fn lines_of_the_order(rt: HostRuntime) -> Result<(), Fail> {
+    let bare = line(rt.alloc(), Observation::Order(txn(1), Ops::new(rt.alloc())))?;
+    assert_eq!(rt; bare.as_slice(), b"1000000 order 0.1.1".as_slice());
+    let each = line(rt.alloc(), Observation::Order(txn(1), each_op(rt.alloc())?))?;
+    assert_eq!(rt;
+        each.as_slice(),
+        b"1000000 order 0.1.1 make:d:dict make:d:queue put:d:k:v del:d:k push:d:v pop:d drop:d".as_slice()
+    );
+    Ok(())
+}
+
+#[test]
+fn a_line_behind_another(rt: HostRuntime) -> Result<(), Fail> {
+    let mut observations = Observations::new(rt.alloc());
+    observations.push(Observation::Active(replica(0)?))?;
+    observations.push(Observation::Done)?;
+    let mut out = Vec::new(rt.alloc());
+    for observation in observations.as_slice() {
+        print(1, observation, &mut out)?;
+        out.push(b'\n')?;
+    }
+    assert_eq!(rt; out.as_slice(), b"1 active 0\n1 ok\n".as_slice());
+    Ok(())
+}

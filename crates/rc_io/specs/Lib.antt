@@ -1,0 +1,10 @@
+pub mod Calls
+pub mod Folders
+pub mod Hosts
+pub mod Lines
+pub mod Limits
+pub mod Memory
+pub mod Reader
+pub mod Reading
+pub mod Ready
+pub mod Window

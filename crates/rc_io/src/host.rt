@@ -1,0 +1,25 @@
+ghost use Rattle.std.specs.Prelude.{◌≡◌, ◌≢◌, Option, List, ℕ, IfOk, IsErrOf};
+ghost use Rattle.std.specs.Borrow.{LendsSoOk, sem};
+ghost use Rattle.rc_io.specs.Hosts.{Lent, Kept, IsFolders};
+ghost use Rattle.disk_model.specs.declared.disk.DiskError.TheVariants.{Failed};
+
+use disk_model::{Disk, DiskError};
+
+/// What has a disk for each folder.
+pub trait Host {
+    type Store: Disk;
+
+    /// The disk of a folder; none where the folder is new.
+    ghost disk: { Self → List ℕ → Option Self.Store };
+
+    /// How often the host has failed. The count never falls, and stands still at 2^64 - 1.
+    ghost faults: { Self → ℕ };
+
+    /// Lends the disk of a folder, which is an empty one where the folder is new, and leaves all others.
+    ///
+    /// # Errors
+    /// `Failed` only where the host's count of faults rose, and `NoMemory` for want of memory. Every disk is left.
+    fn store(&mut self, folder: &str) -> Result<&mut Self::Store, DiskError>
+        ensures* lends { sem 𝓛 (LendsSoOk Self.row Self.Store.row self.entry result (Lent disk faults folder.now self.old) (Kept disk faults (IsErrOf result Failed) self.old)) }
+        ensures disk { IfOk result (λ d. IsFolders Self.Store.seen (disk self.old folder.now) d.now) };
+}

@@ -1,0 +1,218 @@
+-- How a run goes on from one line to the next, and how it ends.
+use Rattle.std.proofs.Common.{◌≡◌, ◌∙◌, sym, ap, subst, ℕ, ◌+◌, List, [], ◌∷◌, ◌++◌, length, take, drop, sum_by, Option, Some, None, Result, Ok, Err, refl, arith, inl, inr, ◌⊎◌, append_assoc}
+use Rattle.std.specs.Io.KnownBytes.{append_known}
+use Rattle.std.proofs.lemmas.List.{append-nil, take-append-drop, length-append}
+use Rattle.std.proofs.lemmas.List.Sums.{sum_by-append}
+use Rattle.rc_base.specs.declared.limit_name.LimitName.{LimitName}
+use Rattle.rc_io.specs.Lines.{raw_lines, line_text}
+use Rattle.rc_io.specs.Limits.{limit_of}
+use Rattle.rc_io.specs.Reader.{Reading}
+use Rattle.rc_io.specs.Reading.{GivesLine, Keeps}
+use Rattle.script_text.specs.declared.event.Event.{Event}
+use Rattle.script_text.specs.Sentence.{Spells, IsSkipped, IsBad}
+use Rattle.order_machine.specs.declared.observation.Observation.{Observation}
+use Rattle.order_machine.specs.Machine.{Machine, empty_machine}
+use Rattle.order_machine.specs.Rows.{IsUnbuilt}
+use Rattle.order_machine.specs.Legal.{Step, AreWhole, moved_all}
+use Rattle.order_machine.specs.Lines.{lines_text, transcript_of}
+use Rattle.world.specs.Kept.{Kept}
+use Rattle.world.specs.World.{StandsFor, Serves}
+use Rattle.world.specs.declared.error.WorldError.{WorldError}
+use Rattle.world.specs.declared.error.WorldError.TheVariants as errors
+use Rattle.relstate.specs.Text.{bad_line_text, limit_line_text}
+use Rattle.relstate.specs.Script.{AreSteps}
+use Rattle.relstate.specs.Ran.{Ending, AtEnd, AtBadLine, AtLimit, CutShort, Ends, IsBadAt, IsStatusOf, closing, Begins, Ran}
+use Rattle.relstate.specs.Reached.{Done, Reached, HasEnded, GoesOn, Writes, status_of}
+use Rattle.relstate.specs.declared.lines.WriteError.{WriteError}
+use Rattle.relstate.specs.declared.lines.WriteError.TheVariants.{Failed, NoMemory}
+use Rattle.relstate.proofs.Steps.{step_of, skipped_more, spelled_more, whole_more, moved_more, written_more}
+
+-- ---- the beginning
+
+pub at_first : (input held : List ℕ) (world : Kept) → StandsFor world empty_machine → Reached input held (record { ahead = []; lines = 0; given = 0 }) world input held
+at_first input held world s = record {
+  before = [];
+  counted = refl;
+  given = refl;
+  done = record { steps = []; cut = refl; spelled = tt; whole = tt; stands = s; text = sym (append-nil held) };
+}
+
+-- ---- the end
+
+-- The run ends where the lines that are done are written, and what closes it is written whole or in part.
+pub closes : (input held now : List ℕ) (before left : List (List ℕ)) (world : Kept) (holds : Option (List ℕ)) (ending : Ending) (status : ℕ) {T : Type 0} (result : Result T WriteError) →
+    (d : Done input held before left world now) → Ends ending before (moved_all empty_machine d.steps) left → IsStatusOf ending status →
+    Writes (closing ending (length before + 1)) (Some now) holds result → HasEnded input held (status_of result status) holds
+closes input held now before left world holds ending status (Ok t) d e s w =
+    let text = transcript_of d.steps ++ closing ending (length before + 1) in (
+      text,
+      w ∙ ap Some (ap (λ xs. xs ++ closing ending (length before + 1)) d.text ∙ append_assoc held (transcript_of d.steps) (closing ending (length before + 1))),
+      record { before = before; left = left; steps = d.steps; ending = ending; lines = d.cut; spelled = d.spelled; whole = d.whole; ended = e; text = inl (s, refl) },
+    )
+closes input held now before left world holds ending status (Err Failed) d e s w =
+    let last = closing ending (length before + 1) in
+    let part = take w.0 last in (
+      transcript_of d.steps ++ part,
+      w.1 ∙ ap Some (ap (λ xs. xs ++ part) d.text ∙ append_assoc held (transcript_of d.steps) part),
+      record {
+        before = before;
+        left = left;
+        steps = d.steps;
+        ending = ending;
+        lines = d.cut;
+        spelled = d.spelled;
+        whole = d.whole;
+        ended = e;
+        text = inr (refl, (drop w.0 last, append_assoc (transcript_of d.steps) part (drop w.0 last) ∙ ap (λ xs. transcript_of d.steps ++ xs) (take-append-drop w.0 last)));
+      },
+    )
+closes input held now before left world holds ending status (Err NoMemory) d e s w = (
+  transcript_of d.steps,
+  w ∙ ap Some d.text,
+  record {
+    before = before;
+    left = left;
+    steps = d.steps;
+    ending = CutShort;
+    lines = d.cut;
+    spelled = d.spelled;
+    whole = d.whole;
+    ended = tt;
+    text = inl (inr refl, sym (append-nil (transcript_of d.steps)));
+  },
+)
+
+-- the run ends with nothing more to write
+pub stops : (input held now : List ℕ) (before left : List (List ℕ)) (world : Kept) (holds : Option (List ℕ)) (ending : Ending) (status : ℕ) →
+    (d : Done input held before left world now) → Ends ending before (moved_all empty_machine d.steps) left → IsStatusOf ending status → closing ending (length before + 1) ≡ [] →
+    holds ≡ Some now → HasEnded input held status holds
+stops input held now before left world holds ending status d e s c h = (
+  transcript_of d.steps,
+  h ∙ ap Some d.text,
+  record {
+    before = before;
+    left = left;
+    steps = d.steps;
+    ending = ending;
+    lines = d.cut;
+    spelled = d.spelled;
+    whole = d.whole;
+    ended = e;
+    text = inl (s, sym (ap (λ xs. transcript_of d.steps ++ xs) c ∙ append-nil (transcript_of d.steps)));
+  },
+)
+
+-- ---- one line
+
+-- a line that is skipped
+pub after_skipped : (input held now : List ℕ) (before left : List (List ℕ)) (raw : List ℕ) (world : Kept) → Done input held before (raw ∷ left) world now → IsSkipped (line_text raw) →
+    Done input held (before ++ raw ∷ []) left world now
+after_skipped input held now before left raw world d s = record {
+  steps = d.steps;
+  cut = d.cut ∙ sym (append_assoc before (raw ∷ []) left);
+  spelled = skipped_more 1 before d.steps raw d.spelled s;
+  whole = d.whole;
+  stands = d.stands;
+  text = d.text;
+}
+
+-- a line whose event is done and written
+pub after_event : (input held now now' : List ℕ) (before left : List (List ℕ)) (raw : List ℕ) (old new : Kept) (number : ℕ) (event : Event) (lines : List Observation) →
+    Done input held before (raw ∷ left) old now → Spells (line_text raw) event → number ≡ length before + 1 → Serves old new event (Ok lines) → now' ≡ now ++ lines_text number lines →
+    Done input held (before ++ raw ∷ []) left new now'
+after_event input held now now' before left raw old new number event lines d spells n serves t =
+    let s = step_of number event lines in
+    let done = serves (moved_all empty_machine d.steps) d.stands in
+    record {
+      steps = d.steps ++ s ∷ [];
+      cut = d.cut ∙ sym (append_assoc before (raw ∷ []) left);
+      spelled = spelled_more 1 before d.steps raw s d.spelled (omega arith) spells;
+      whole = whole_more [] empty_machine d.steps s d.whole done.0;
+      stands = subst (StandsFor new) (sym (moved_more empty_machine d.steps s)) done.1;
+      text = t ∙ ap (λ xs. xs ++ lines_text number lines) d.text ∙ append_assoc held (transcript_of d.steps) (lines_text number lines) ∙ ap (λ xs. held ++ xs) (sym (written_more d.steps s));
+    }
+
+-- an event that is done, and whose lines are written whole, in part, or not at all
+pub event_cut_off : (input held now : List ℕ) (before left : List (List ℕ)) (raw : List ℕ) (old new : Kept) (holds : Option (List ℕ)) (number : ℕ) (event : Event) (lines : List Observation) (n : ℕ) →
+    Done input held before (raw ∷ left) old now → Spells (line_text raw) event → number ≡ length before + 1 → Serves old new event (Ok lines) →
+    holds ≡ Some (now ++ take n (lines_text number lines)) → HasEnded input held 5 holds
+unfolding after_event
+event_cut_off input held now before left raw old new holds number event lines n d spells at serves w =
+    let text = lines_text number lines in
+    let all : Done input held (before ++ raw ∷ []) left new (now ++ text) = after_event input held now (now ++ text) before left raw old new number event lines d spells at serves refl in (
+      transcript_of d.steps ++ take n text,
+      w ∙ ap Some (ap (λ xs. xs ++ take n text) d.text ∙ append_assoc held (transcript_of d.steps) (take n text)),
+      record {
+        before = before ++ raw ∷ [];
+        left = left;
+        steps = all.steps;
+        ending = CutShort;
+        lines = all.cut;
+        spelled = all.spelled;
+        whole = all.whole;
+        ended = tt;
+        text = inr (
+          refl,
+          (
+            drop n text,
+            append_assoc (transcript_of d.steps) (take n text) (drop n text)
+                ∙ ap (λ xs. transcript_of d.steps ++ xs) (take-append-drop n text)
+                ∙ sym (append-nil (transcript_of all.steps) ∙ written_more d.steps (step_of number event lines)),
+          ),
+        );
+      },
+    )
+
+-- ---- between two lines
+
+-- the reader gave a line
+pub at_line : (input held ahead ahead' now : List ℕ) (old new : Reading) (world : Kept) (text : List ℕ) (r : Reached input held old world ahead now) (g : GivesLine old new ahead ahead' text) →
+    Done input held r.before (g.raw ∷ raw_lines ahead') world now
+at_line input held ahead ahead' now old new world text r g = record {
+  steps = r.done.steps;
+  cut = r.done.cut ∙ ap (λ xs. r.before ++ xs) g.first;
+  spelled = r.done.spelled;
+  whole = r.done.whole;
+  stands = r.done.stands;
+  text = r.done.text;
+}
+
+-- and it is done
+pub next_reached : (input held ahead ahead' now now' : List ℕ) (old new : Reading) (world world' : Kept) (text : List ℕ) (r : Reached input held old world ahead now) (g : GivesLine old new ahead ahead' text) →
+    new.lines ≡ old.lines + 1 → Done input held (r.before ++ g.raw ∷ []) (raw_lines ahead') world' now' → Reached input held new world' ahead' now'
+next_reached input held ahead ahead' now now' old new world world' text r g n d = record {
+  before = r.before ++ g.raw ∷ [];
+  counted = let c = r.counted in omega (arith, length-append r.before (g.raw ∷ []));
+  given = sum_by-append length r.before (g.raw ∷ []) ∙ (let a = r.given in let b = g.given in omega arith);
+  done = d;
+}
+
+-- ---- the last line
+
+-- the run ends at a bad line
+pub ends_at_bad_line : (input held now : List ℕ) (before left : List (List ℕ)) (raw : List ℕ) (world : Kept) (old holds : Option (List ℕ)) (number status : ℕ) {T : Type 0} (result : Result T WriteError) →
+    (d : Done input held before (raw ∷ left) world now) → IsBadAt (moved_all empty_machine d.steps) (raw ∷ left) → number ≡ length before + 1 → old ≡ Some now →
+    Writes (bad_line_text number) old holds result → status ≡ status_of result 3 → HasEnded input held status holds
+ends_at_bad_line input held now before left raw world old holds number status {T} result d bad at o w s =
+    let P : ℕ → Type 0 = λ n. HasEnded input held n holds in
+    let N : ℕ → Type 0 = λ n. Writes (bad_line_text n) (Some now) holds result in
+    let O : Option (List ℕ) → Type 0 = λ k. Writes (bad_line_text number) k holds result in
+    subst P (sym s) (closes input held now before (raw ∷ left) world holds AtBadLine 3 result d bad refl (subst N at (subst O o w)))
+
+-- the run ends at a limit
+pub ends_at_limit : (input held now : List ℕ) (before left : List (List ℕ)) (world : Kept) (old holds : Option (List ℕ)) (number status : ℕ) (which : LimitName) {T : Type 0} (result : Result T WriteError) →
+    (d : Done input held before left world now) → limit_of (length before) (sum_by length before) left ≡ Some which → number ≡ length before + 1 → old ≡ Some now →
+    Writes (limit_line_text number which) old holds result → status ≡ status_of result 9 → HasEnded input held status holds
+ends_at_limit input held now before left world old holds number status which {T} result d reached at o w s =
+    let P : ℕ → Type 0 = λ n. HasEnded input held n holds in
+    let N : ℕ → Type 0 = λ n. Writes (limit_line_text n which) (Some now) holds result in
+    let O : Option (List ℕ) → Type 0 = λ k. Writes (limit_line_text number which) k holds result in
+    subst P (sym s) (closes input held now before left world holds (AtLimit which) 9 result d reached refl (subst N at (subst O o w)))
+
+-- nothing was done for want of memory
+pub nothing_done : (input held : List ℕ) (holds : Option (List ℕ)) → holds ≡ Some held → HasEnded input held 8 holds
+nothing_done input held holds h = (
+  [],
+  h ∙ ap Some (sym (append-nil held)),
+  record { before = []; left = raw_lines input; steps = []; ending = CutShort; lines = refl; spelled = tt; whole = tt; ended = tt; text = inl (inr refl, refl) },
+)

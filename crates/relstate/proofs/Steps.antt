@@ -1,0 +1,55 @@
+-- One line more, and one step more.
+use Rattle.std.proofs.Common.{◌≡◌, ◌∙◌, sym, ap, subst, ℕ, suc, ◌+◌, List, [], ◌∷◌, ◌++◌, length, refl, arith, inl, inr, ◌⊎◌}
+use Rattle.std.proofs.lemmas.Grind.{flat_map-append}
+use Rattle.std.proofs.lemmas.List.{append-nil}
+use Rattle.rc_io.specs.Lines.{line_text}
+use Rattle.script_text.specs.declared.event.Event.{Event}
+use Rattle.script_text.specs.Sentence.{Spells, IsSkipped}
+use Rattle.order_machine.specs.declared.observation.Observation.{Observation}
+use Rattle.order_machine.specs.Machine.{Machine}
+use Rattle.order_machine.specs.Legal.{Step, Filter, AreWhole, IsWhole, moved, moved_all}
+use Rattle.order_machine.specs.Lines.{lines_text, transcript_of}
+use Rattle.relstate.specs.Script.{AreSteps}
+
+abbrev pub step_of : ℕ → Event → List Observation → Step
+step_of number event lines = record { number = number; event = event; lines = lines }
+
+-- a skipped line more
+pub skipped_more : (n : ℕ) (raws : List (List ℕ)) (steps : List Step) (raw : List ℕ) → AreSteps n raws steps → IsSkipped (line_text raw) → AreSteps n (raws ++ raw ∷ []) steps
+skipped_more n [] [] raw a s = (s, tt)
+skipped_more n [] (x ∷ xs) raw a s = absurd a
+skipped_more n (r ∷ rs) [] raw a s = (a.0, skipped_more (n + 1) rs [] raw a.1 s)
+skipped_more n (r ∷ rs) (x ∷ xs) raw (inl a) s = inl (a.0, skipped_more (n + 1) rs (x ∷ xs) raw a.1 s)
+skipped_more n (r ∷ rs) (x ∷ xs) raw (inr a) s = inr (a.0, a.1, skipped_more (n + 1) rs xs raw a.2 s)
+
+-- a line that spells an event more
+pub spelled_more : (n : ℕ) (raws : List (List ℕ)) (steps : List Step) (raw : List ℕ) (s : Step) → AreSteps n raws steps → s.number ≡ n + length raws → Spells (line_text raw) s.event → AreSteps n (raws ++ raw ∷ []) (steps ++ s ∷ [])
+spelled_more n [] [] raw s a e h = inr (e ∙ add_none n, h, tt)
+  where
+    add_none : (k : ℕ) → k + 0 ≡ k
+    add_none k = omega arith
+spelled_more n [] (x ∷ xs) raw s a e h = absurd a
+spelled_more n (r ∷ rs) [] raw s a e h = inl (a.0, spelled_more (n + 1) rs [] raw s a.1 (e ∙ shifted n (length rs)) h)
+  where
+    shifted : (k l : ℕ) → k + suc l ≡ k + 1 + l
+    shifted k l = omega arith
+spelled_more n (r ∷ rs) (x ∷ xs) raw s (inl a) e h = inl (a.0, spelled_more (n + 1) rs (x ∷ xs) raw s a.1 (e ∙ shifted n (length rs)) h)
+  where
+    shifted : (k l : ℕ) → k + suc l ≡ k + 1 + l
+    shifted k l = omega arith
+spelled_more n (r ∷ rs) (x ∷ xs) raw s (inr a) e h = inr (a.0, a.1, spelled_more (n + 1) rs xs raw s a.2 (e ∙ shifted n (length rs)) h)
+  where
+    shifted : (k l : ℕ) → k + suc l ≡ k + 1 + l
+    shifted k l = omega arith
+
+pub whole_more : (filters : List Filter) (m : Machine) (steps : List Step) (s : Step) → AreWhole filters m steps → IsWhole (moved_all m steps) s.event s.lines → AreWhole filters m (steps ++ s ∷ [])
+whole_more filters m [] s a w = (w, tt)
+whole_more filters m (x ∷ xs) s a w = (a.0, whole_more filters (moved m x.event x.lines) xs s a.1 w)
+
+pub moved_more : (m : Machine) (steps : List Step) (s : Step) → moved_all m (steps ++ s ∷ []) ≡ moved (moved_all m steps) s.event s.lines
+moved_more m [] s = refl
+moved_more m (x ∷ xs) s = moved_more (moved m x.event x.lines) xs s
+
+pub written_more : (steps : List Step) (s : Step) → transcript_of (steps ++ s ∷ []) ≡ transcript_of steps ++ lines_text s.number s.lines
+written_more steps s =
+    flat_map-append (λ (x : Step). lines_text x.number x.lines) steps (s ∷ []) ∙ ap (λ t. transcript_of steps ++ t) (append-nil (lines_text s.number s.lines))

@@ -1,0 +1,23 @@
+use Rattle.std.proofs.Common.{◌≡◌, ◌∙◌, sym, ap, subst, ℕ, List, ◌++◌, Option, Some, Result, Ok, Err, take, drop, refl}
+use Rattle.std.specs.Io.KnownBytes.{append_known}
+use Rattle.std.proofs.lemmas.List.{take-append-drop}
+use Rattle.relstate.specs.Text.{usage}
+use Rattle.relstate.specs.Reached.{Writes}
+use Rattle.relstate.specs.declared.lines.WriteError.{WriteError}
+use Rattle.relstate.specs.declared.lines.WriteError.TheVariants.{Failed, NoMemory}
+use Rattle.relstate.proofs.run.run.Goals as goal
+
+abbrev five : ℕ
+five = 5
+
+cut_off : (e : WriteError) (old new : Option (List ℕ)) (held : List ℕ) → Writes {T = Unit {0}} usage old new (Err e) → (e ≡ NoMemory → ⊥) → old ≡ Some held →
+    (part : List ℕ) × (new ≡ Some (held ++ part)) × ((more : List ℕ) × (part ++ more ≡ usage)) × (five ≡ 2 → part ≡ usage)
+cut_off Failed old new held w m h =
+    (take w.0 usage, w.1 ∙ ap (λ o. append_known o (take w.0 usage)) h, (drop w.0 usage, take-append-drop w.0 usage), λ e. absurd (not_two e))
+  where
+    not_two : five ≡ 2 → ⊥
+    not_two e = cc
+cut_off NoMemory old new held w m h = absurd (m refl)
+
+pub returns-in-Err-clause-usage_text : goal.returns-in-Err-clause-usage_text
+returns-in-Err-clause-usage_text g c = λ held words h. cut_off c.in-Err.field-0 _ _ held c.in-Err.ensures.writes (λ q. c.in-Err.ensures.memory (ap Err q)) h

@@ -1,0 +1,4 @@
+pub mod Text
+pub mod Script
+pub mod Ran
+pub mod Reached

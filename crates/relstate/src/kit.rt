@@ -1,0 +1,3 @@
+/// What a run is given besides: nothing yet.
+#[derive(Drop)]
+pub struct Kit {}

@@ -1,0 +1,92 @@
+ghost use Rattle.std.specs.Prelude.{◌≡◌, IfOk, vec_len};
+
+use super::*;
+use rc_io::{MemSink, MemSource};
+use std::test::*;
+
+// What a run of `world` over objects in memory answers, and what it writes.
+fn ran(
+    alloc: Global,
+    script: &[u8],
+    room: Option<u64>,
+    fails: Vec<u64>,
+) -> Result<(u8, Vec<u8>), AllocError> {
+    let mut words = Vec::new(alloc);
+    words.push(String::from_str(alloc, "world")?)?;
+    let mut source = MemSource::new(Vec::from_slice(alloc, script)?, fails);
+    let mut sink = MemSink::new(alloc, room, Vec::new(alloc));
+    let mut fleet = nine_disks(alloc)?;
+    let mut host = MemHost::new(alloc, Vec::new(alloc));
+    let status = run(
+        alloc,
+        &words,
+        &mut source,
+        &mut sink,
+        &mut fleet,
+        &mut host,
+        Kit {},
+    );
+    Ok((status, Vec::from_slice(alloc, sink.bytes())?))
+}
+
+#[test]
+fn first_run(rt: HostRuntime) -> Result<(), Fail> {
+    let alloc = rt.alloc();
+    let script = b"boot 0 0\n# a comment\nbegin 0\n\ncommit 0 0.1.1\ncommit 0 0.1.1\nboot 0 0\n";
+    let (status, text) = ran(alloc, script, None, Vec::new(alloc))?;
+    assert_eq!(rt; status, 0);
+    assert_eq!(rt;
+        text.as_slice(),
+        b"1 up 0\n1 view 0 0\n1 active 0\n1 ok\n3 txn 0.1.1\n5 order 0.1.1\n5 view 0 1\n5 committed 0.1.1\n6 ended 0.1.1\n7 refused 9\n".as_slice()
+    );
+    Ok(())
+}
+
+#[test]
+fn empty_script(rt: HostRuntime) -> Result<(), Fail> {
+    let alloc = rt.alloc();
+    let (status, text) = ran(alloc, b"", None, Vec::new(alloc))?;
+    assert_eq!(rt; status, 0);
+    assert_eq!(rt; text.len(), 0);
+    Ok(())
+}
+
+#[test]
+fn bad_lines(rt: HostRuntime) -> Result<(), Fail> {
+    let alloc = rt.alloc();
+    let (status, text) = ran(alloc, b"boot 0 0\nbegin 1\n", None, Vec::new(alloc))?;
+    assert_eq!(rt; status, 3);
+    assert_eq!(rt;
+        text.as_slice(),
+        b"1 up 0\n1 view 0 0\n1 active 0\n1 ok\n2 stop 3\n".as_slice()
+    );
+    // A second transaction beside a live one is not built.
+    let (status, text) = ran(
+        alloc,
+        b"begin 0\nboot 0 0\nbegin 0\nbegin 0",
+        None,
+        Vec::new(alloc),
+    )?;
+    assert_eq!(rt; status, 3);
+    assert_eq!(rt;
+        text.as_slice(),
+        b"1 refused 9\n2 up 0\n2 view 0 0\n2 active 0\n2 ok\n3 txn 0.1.1\n4 stop 3\n".as_slice()
+    );
+    Ok(())
+}
+
+#[test]
+fn faults(rt: HostRuntime) -> Result<(), Fail> {
+    let alloc = rt.alloc();
+    // The sink takes 20 bytes and then fails.
+    let (status, text) = ran(alloc, b"boot 0 0\nbegin 0\n", Some(20), Vec::new(alloc))?;
+    assert_eq!(rt; status, 5);
+    assert_eq!(rt; text.as_slice(), b"1 up 0\n1 view 0 0\n1 ".as_slice());
+    // The source fails at its first read.
+    let mut fails = Vec::new(alloc);
+    fails.push(1)?;
+    let (status, text) = ran(alloc, b"boot 0 0\n", None, fails)?;
+    assert_eq!(rt; status, 4);
+    assert_eq!(rt; text.len(), 0);
+    Ok(())
+}

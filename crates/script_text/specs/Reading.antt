@@ -1,0 +1,23 @@
+-- What words are read as. Each answer is exact: the value whose text it is, or none where it is the text of no value.
+use Rattle.std.specs.Prelude.{◌≡◌, ℕ, List, [], ◌∷◌, map, decimal, Option, MatchOption}
+use Rattle.std.specs.Borrow.{Bor}
+use Rattle.rc_base.specs.declared.ids.TxnId.{TxnId}
+use Rattle.script_text.specs.declared.event.Event.{Event}
+use Rattle.script_text.specs.Sentence.{words_of, IsBuilt}
+
+-- the texts that slices hold
+abbrev pub texts : List (Bor (List ℕ)) → List (List ℕ)
+texts slices = map (λ slice. slice.now) slices
+
+-- the parts of a transaction's text, without the full stops
+abbrev pub txn_parts : TxnId → List (List ℕ)
+txn_parts t = decimal t.epoch.loss ∷ decimal t.epoch.number ∷ decimal t.n ∷ []
+
+-- the words are this event's, and its sentence is built
+pub record IsSentence (words : List (List ℕ)) (event : Event) : Type 0 where
+  pub spelled : words ≡ words_of event
+  pub built : IsBuilt event
+
+-- words are read as the event whose sentence they are, or as none where they are no sentence
+abbrev pub AreReadAs : List (List ℕ) → Option Event → Type 0
+AreReadAs words read = MatchOption read ((event : Event) → IsSentence words event → ⊥) (IsSentence words)

@@ -1,0 +1,78 @@
+ghost use Rattle.std.specs.Prelude.{◌≡◌, ◌==◌, ◌<◌, ◌^◌, ℕ, List, map, decimal, IfOk, IfSome, IfNone};
+ghost use Rattle.std.specs.List.{slice_split};
+ghost use Rattle.rc_base.specs.declared.ids.TxnId.{TxnId};
+ghost use Rattle.script_text.specs.Sentence.{txn_text, IsTxn};
+ghost use Rattle.script_text.specs.Reading.{texts, txn_parts};
+
+use itoa::Buffer;
+use rc_base::{Epoch, ReplicaId, TxnId};
+use std::alloc::{AllocError, Global};
+
+// The parts of a text, between the bytes that separate them.
+pub(crate) fn parts_of(alloc: Global, separator: u8, text: &[u8]) -> Result<Vec<&[u8]>, AllocError>
+    ensures { IfOk result (λ v. texts v.items ≡ slice_split (λ b. b == separator) text.now) }
+{
+    text.split(|b| *b == separator).collect(alloc)
+}
+
+// The number of a decimal text without leading zeros, where it is below 2^64.
+pub(crate) fn number(word: &[u8]) -> Option<u64>
+    ensures some { IfSome result (λ n. (n < 2 ^ 64) × (word.now ≡ decimal n)) }
+    ensures none { IfNone result ((n : ℕ) → n < 2 ^ 64 → word.now ≡ decimal n → ⊥) }
+{
+    let Ok(text) = std::str::from_utf8(word) else {
+        return None;
+    };
+    let Ok(n) = text.parse::<u64>() else {
+        return None;
+    };
+    // Of the texts that are read as this number, one is printed.
+    let mut buffer = Buffer::new();
+    if buffer.format(n) == text {
+        Some(n)
+    } else {
+        None
+    }
+}
+
+// The number of such a text, where it is below 2^32.
+pub(crate) fn short_number(word: &[u8]) -> Option<u32>
+    ensures some { IfSome result (λ n. (n < 2 ^ 32) × (word.now ≡ decimal n)) }
+    ensures none { IfNone result ((n : ℕ) → n < 2 ^ 32 → word.now ≡ decimal n → ⊥) }
+{
+    let n = number(word)?;
+    u32::try_from(n).ok()
+}
+
+// The replica of a text: its number, 0 to 8.
+pub(crate) fn replica(word: &[u8]) -> Option<ReplicaId>
+    ensures some { IfSome result (λ r. (r < 9) × (word.now ≡ decimal r)) }
+    ensures none { IfNone result ((r : ℕ) → r < 9 → word.now ≡ decimal r → ⊥) }
+{
+    let n = number(word)?;
+    ReplicaId::new(u8::try_from(n).ok()?)
+}
+
+// The transaction of a text.
+pub(crate) fn txn(alloc: Global, word: &[u8]) -> Result<Option<TxnId>, AllocError>
+    ensures some { IfOk result (λ read. IfSome read (λ t. IsTxn t × (word.now ≡ txn_text t))) }
+    ensures none { IfOk result (λ read. IfNone read ((t : TxnId) → IsTxn t → word.now ≡ txn_text t → ⊥)) }
+{
+    Ok(txn_of_parts(&parts_of(alloc, b'.', word)?))
+}
+
+// The transaction of a text's parts.
+fn txn_of_parts(parts: &[&[u8]]) -> Option<TxnId>
+    ensures some { IfSome result (λ t. IsTxn t × (texts parts.now ≡ txn_parts t)) }
+    ensures none { IfNone result ((t : TxnId) → IsTxn t → texts parts.now ≡ txn_parts t → ⊥) }
+{
+    let [loss, count, n] = parts else {
+        return None;
+    };
+    let epoch = Epoch {
+        loss: short_number(loss)?,
+        number: short_number(count)?,
+    };
+    let n = number(n)?;
+    Some(TxnId { epoch, n })
+}

@@ -1,0 +1,31 @@
+ghost use Rattle.std.specs.Prelude.{◌≡◌};
+ghost use Rattle.world.specs.declared.error.WorldError.TheVariants.{NoMemory as no_memory};
+
+use order_machine::Observations;
+use rc_base::{LimitName, NoMemory};
+use thiserror::Error;
+
+/// Why an event was not done whole. Its world is dropped.
+#[derive(Debug, Drop, Error)]
+pub enum WorldError {
+    /// Want of memory.
+    #[error("out of memory")]
+    NoMemory,
+    /// The event reached a limit, behind these lines of it.
+    #[error("the limit {which} was reached")]
+    Limit {
+        which: LimitName,
+        lines: Observations,
+    },
+    /// The event waits for a later version at this state of the world, behind these lines of it.
+    #[error("not built yet")]
+    Unbuilt { lines: Observations },
+}
+
+impl From<NoMemory> for WorldError {
+    ghost from_gives = { λ _ e. e ≡ no_memory };
+
+    fn from(_e: NoMemory) -> WorldError {
+        WorldError::NoMemory
+    }
+}

@@ -1,0 +1,8 @@
+//! The world of a script: up to nine replicas, and what each event does there and prints.
+#![tactic(auto)]
+
+mod error;
+mod world;
+
+pub use error::WorldError;
+pub use world::World;
