@@ -15,3 +15,6 @@ pub use law::one_spelling;
 pub use record::{Physical, Record};
 pub use words::{is_key, is_name, is_value};
 pub use writing::{op_fits, physical_fits, record_fits};
+
+#[cfg(test)]
+mod tests;
