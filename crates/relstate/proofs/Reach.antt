@@ -1,28 +1,23 @@
 -- How a run goes on from one line to the next, and how it ends.
-use Rattle.std.proofs.Common.{◌≡◌, ◌∙◌, sym, ap, subst, ℕ, ◌+◌, List, [], ◌∷◌, ◌++◌, length, take, drop, sum_by, Option, Some, None, Result, Ok, Err, refl, arith, inl, inr, ◌⊎◌, append_assoc}
-use Rattle.std.specs.Io.KnownBytes.{append_known}
+use Rattle.std.proofs.Common.{◌≡◌, ◌∙◌, sym, ap, subst, ℕ, ◌+◌, List, [], ◌∷◌, ◌++◌, length, take, drop, sum_by, Option, Some, Result, Ok, Err, refl, arith, inl, inr, append_assoc}
 use Rattle.std.proofs.lemmas.List.{append-nil, take-append-drop, length-append}
 use Rattle.std.proofs.lemmas.List.Sums.{sum_by-append}
 use Rattle.rc_base.specs.declared.limit_name.LimitName.{LimitName}
 use Rattle.rc_io.specs.Lines.{raw_lines, line_text}
 use Rattle.rc_io.specs.Limits.{limit_of}
 use Rattle.rc_io.specs.Reader.{Reading}
-use Rattle.rc_io.specs.Reading.{GivesLine, Keeps}
+use Rattle.rc_io.specs.Reading.{GivesLine}
 use Rattle.script_text.specs.declared.event.Event.{Event}
-use Rattle.script_text.specs.Sentence.{Spells, IsSkipped, IsBad}
+use Rattle.script_text.specs.Sentence.{Spells, IsSkipped}
 use Rattle.order_machine.specs.declared.observation.Observation.{Observation}
-use Rattle.order_machine.specs.Machine.{Machine, empty_machine}
-use Rattle.order_machine.specs.Rows.{IsUnbuilt}
-use Rattle.order_machine.specs.Legal.{Step, AreWhole, moved_all}
+use Rattle.order_machine.specs.Machine.{empty_machine}
+use Rattle.order_machine.specs.Legal.{moved_all}
 use Rattle.order_machine.specs.Lines.{lines_text, transcript_of}
 use Rattle.world.specs.Kept.{Kept}
 use Rattle.world.specs.World.{StandsFor, Serves}
-use Rattle.world.specs.declared.error.WorldError.{WorldError}
-use Rattle.world.specs.declared.error.WorldError.TheVariants as errors
 use Rattle.relstate.specs.Text.{bad_line_text, limit_line_text}
-use Rattle.relstate.specs.Script.{AreSteps}
-use Rattle.relstate.specs.Ran.{Ending, AtEnd, AtBadLine, AtLimit, CutShort, Ends, IsBadAt, IsStatusOf, closing, Begins, Ran}
-use Rattle.relstate.specs.Reached.{Done, Reached, HasEnded, GoesOn, Writes, status_of}
+use Rattle.relstate.specs.Ran.{Ending, AtBadLine, AtLimit, CutShort, Ends, IsBadAt, IsStatusOf, closing}
+use Rattle.relstate.specs.Reached.{Done, Reached, HasEnded, Writes, status_of}
 use Rattle.relstate.specs.declared.lines.WriteError.{WriteError}
 use Rattle.relstate.specs.declared.lines.WriteError.TheVariants.{Failed, NoMemory}
 use Rattle.relstate.proofs.Steps.{step_of, skipped_more, spelled_more, whole_more, moved_more, written_more}

@@ -54,7 +54,7 @@ fn nine_disks(alloc: Global) -> Result<Vec<MemDisk>, AllocError>
     ensures { IfOk result (λ fleet. vec_len fleet ≡ 9) }
 {
     let mut fleet = Vec::new(alloc);
-    for _ in 0..9 {
+    for _ in 0..9usize {
         fleet.push(MemDisk::new(alloc))?;
     }
     Ok(fleet)

@@ -1,22 +1,19 @@
 -- A begin at a booted world.
-use Rattle.std.proofs.Common.{◌≡◌, ◌∙◌, sym, ap, subst, ℕ, ◌+◌, ◌≤◌, List, [], ◌∷◌, Bool, true, false, cond, ◌||◌, ◌&&◌, not, Option, Some, None, refl, arith, length, eqb, ◌==◌}
+use Rattle.std.proofs.Common.{◌≡◌, ◌∙◌, sym, subst, ℕ, ◌+◌, List, [], ◌∷◌, Bool, true, false, cond, ◌&&◌, Option, Some, None, refl, arith, length, ◌==◌}
 use Rattle.std.specs.Option.{option_map_or}
 use Rattle.std.specs.List.{list_any}
 use Rattle.std.specs.Map.{lookup}
 use Rattle.rc_base.specs.declared.ids.TxnId.{TxnId}
-use Rattle.script_text.specs.declared.event.Event.{Event}
-use Rattle.script_text.specs.declared.event.Event.TheVariants.{Boot, Begin, Commit}
-use Rattle.order_machine.specs.declared.observation.Observation.{Observation}
+use Rattle.script_text.specs.declared.event.Event.TheVariants.{Begin}
 use Rattle.order_machine.specs.declared.observation.Observation.TheVariants as says
-use Rattle.order_machine.specs.Ids.{is_txn, is_epoch}
+use Rattle.order_machine.specs.Ids.{is_txn}
 use Rattle.order_machine.specs.Order.{Entry, holds}
-use Rattle.order_machine.specs.Machine.{Machine, Txn, is_live, ops_of}
-use Rattle.order_machine.specs.Rows.{IsUnbuilt, first_epoch, opened}
-use Rattle.order_machine.specs.Legal.{IsWhole, moved, behind, Lines}
+use Rattle.order_machine.specs.Machine.{Machine, Txn, is_live}
+use Rattle.order_machine.specs.Rows.{IsUnbuilt, first_epoch}
+use Rattle.order_machine.specs.Legal.{IsWhole, moved}
 use Rattle.world.specs.World.{running, Runs, IsKept}
 use Rattle.world.proofs.Txns.{is_txn_refl, is_txn_same, apart, not_true, some_is}
 use Rattle.world.proofs.Quiet.{holds_behind}
-use Rattle.world.proofs.Served.{served_from}
 
 abbrev pub next : ℕ → TxnId
 next begins = record { epoch = first_epoch; n = begins + 1 }
@@ -85,6 +82,7 @@ begin_runs begins shown m h =
   where
     some_same : {t : TxnId} → Some (next begins) ≡ Some t → next begins ≡ t
     some_same e = cc
+
     known : (t : TxnId) → next begins ≡ t → lookup (is_txn t) ((next begins, fresh (length h.entries)) ∷ h.txns) ≡ Some (fresh (length h.entries))
     known t e = let P : TxnId → Type 0 = λ u. lookup (is_txn u) ((next begins, fresh (length h.entries)) ∷ h.txns) ≡ Some (fresh (length h.entries)) in
         subst P e (rw (is_txn_refl (next begins)) refl)
@@ -100,7 +98,8 @@ begin_serves begins shown m h =
         complete = record { opened = refl; grown = refl; mounted = refl; answered = refl };
         holds = holds_behind _ _ _ _ then;
       },
-      then)
+      then,
+    )
 
 -- a begin beside what goes on waits for locks
 pub unbuilt_beside : (begins shown : ℕ) (t : TxnId) (m : Machine) → Runs begins shown (Some t) m → IsUnbuilt m (Begin 0)

@@ -1,26 +1,23 @@
 -- A commit at a booted world of the transaction that goes on.
-use Rattle.std.proofs.Common.{◌≡◌, ◌∙◌, sym, ap, subst, ℕ, zero, suc, ◌+◌, ◌-◌, ◌<◌, ◌≤◌, List, [], ◌∷◌, ◌++◌, length, take, Bool, true, false, cond, ◌&&◌, ◌||◌, not, Option, Some, None, refl, arith, ◌==◌, get_or, replicate, length-append, inl, inr, ◌⊎◌}
+use Rattle.std.proofs.Common.{◌≡◌, ◌∙◌, sym, ap, subst, ℕ, zero, suc, ◌+◌, ◌-◌, ◌≤◌, List, [], ◌∷◌, ◌++◌, length, take, Bool, true, false, cond, ◌&&◌, ◌||◌, not, Option, Some, None, refl, arith, ◌==◌, replicate, length-append, inl, inr, ◌⊎◌}
 use Rattle.std.specs.Option.{option_map_or}
 use Rattle.std.specs.List.{list_any}
 use Rattle.std.specs.Map.{lookup}
 use Rattle.std.proofs.Math.Seq.{take-length}
 use Rattle.rc_base.specs.declared.ids.TxnId.{TxnId}
-use Rattle.rc_base.specs.declared.ids.Epoch.{Epoch}
 use Rattle.coll_model.specs.Effect.{State}
-use Rattle.coll_model.specs.declared.op.Op.{Op}
-use Rattle.script_text.specs.declared.event.Event.{Event}
 use Rattle.script_text.specs.declared.event.Event.TheVariants.{Commit}
 use Rattle.order_machine.specs.declared.observation.Observation.{Observation}
 use Rattle.order_machine.specs.declared.observation.Observation.TheVariants as says
 use Rattle.order_machine.specs.Ids.{is_txn, is_epoch}
 use Rattle.order_machine.specs.Order.{Order, Entry, holds, before, state_at, length_of}
-use Rattle.order_machine.specs.Machine.{Machine, Txn, Noted, Role, Replica, is_live, is_pending, is_shown, role_of, put_txn, never_opened, ops_of}
+use Rattle.order_machine.specs.Machine.{Machine, Txn, Noted, Role, is_live, is_pending, is_shown, role_of, put_txn, never_opened, ops_of}
 use Rattle.order_machine.specs.Answers.{Replays}
-use Rattle.order_machine.specs.Rows.{Position, May, MayOrder, MayShow, MayCommit, opened, at_start, after, first_epoch}
-use Rattle.order_machine.specs.Legal.{IsWhole, moved, Lines, behind}
+use Rattle.order_machine.specs.Rows.{Position, May, opened, at_start, after, first_epoch}
+use Rattle.order_machine.specs.Legal.{IsWhole, moved}
 use Rattle.world.specs.World.{running, serving, first_appointment, Runs, IsKept}
 use Rattle.world.proofs.Txns.{is_txn_same, is_txn_refl, apart, not_true, some_is, holds_more, or_cases}
-use Rattle.world.proofs.Quiet.{holds_behind, settled, never_there}
+use Rattle.world.proofs.Quiet.{holds_behind, never_there}
 use Rattle.world.proofs.Served.{served_from}
 
 -- no call that is built yet names a collection
@@ -166,6 +163,7 @@ commit_may begins shown entries acknowledged txns t x each known not_held not_ac
   where
     is_epoch_of : (u : TxnId) → u.epoch ≡ first_epoch → is_epoch u.epoch first_epoch ≡ true
     is_epoch_of u e = rw e refl
+
     first_not : (u : TxnId) → holds (before t (with_entry entries t)) u ≡ true → is_txn u t ≡ true → ⊥
     first_not u h same =
         let b : before t (with_entry entries t) ≡ entries = before_new t entries (entry_of t) not_held (is_txn_refl t) in
@@ -173,6 +171,7 @@ commit_may begins shown entries acknowledged txns t x each known not_held not_ac
         let w : u ≡ t = is_txn_same u t same in
         let P : TxnId → Type 0 = λ v. holds entries v ≡ true in
         apart (sym not_held ∙ subst P w g)
+
     elsewhere_at : (q : ℕ) (role : Role) → role_of (third begins shown entries acknowledged txns t x).machine q ≡ Some role →
         is_shown (third begins shown entries acknowledged txns t x).machine 0 t ≡ true → is_shown (third begins shown entries acknowledged txns t x).machine q t ≡ true
     elsewhere_at zero role is there = there
@@ -229,11 +228,14 @@ commit_runs begins shown m t h x known = record {
   where
     more : shown + 1 ≡ length (with_entry h.entries t)
     more = let a = h.all_shown in omega (arith, length-append h.entries (entry_of t ∷ []))
+
     none_is : {u : TxnId} → None ≡ Some u → ⊥
     none_is e = cc
+
     held_there : (u : TxnId) (b : Bool) → is_txn u t ≡ b → (b || list_any (is_txn u) h.acknowledged) ≡ true → holds (with_entry h.entries t) u ≡ true
     held_there u true same e = let w : u ≡ t = is_txn_same u t same in rw w (held_new h.entries t)
     held_there u false other e = held_more h.entries t u (h.held u e)
+
     begun_there : (u : TxnId) → (holds h.entries u ≡ true) ⊎ (is_txn u t ≡ true) → u.n ≤ begins
     begun_there u (inl e) = h.held_begun u e
     begun_there u (inr e) = let w : u ≡ t = is_txn_same u t e in let k = (h.each t x known).begun in rw w k
@@ -253,12 +255,15 @@ commit_serves begins shown m t h =
     let then = commit_runs begins shown m t h x known in
     let P : Machine → Type 0 = λ at. IsWhole at (Commit 0 t) (lines_of t shown) × Runs begins (shown + 1) None (moved at (Commit 0 t) (lines_of t shown)) in
     subst P (sym h.is) (served_from n (Commit 0 t) (lines_of t shown) p (Runs begins (shown + 1) None) refl o
-      (record {
-        may = (
-          order_may begins h.entries h.acknowledged h.txns t x (k.not_held on) (k.nothing_logged on),
-          (view_may begins shown h.entries h.acknowledged h.txns t x h.all_shown,
-          (commit_may begins shown h.entries h.acknowledged h.txns t x h.each known (k.not_held on) (k.not_acknowledged on) h.all_shown, tt)));
-        complete = record { opened = refl; grown = refl; mounted = refl; answered = is_txn_refl t };
-        holds = holds_behind _ _ _ _ then;
-      })
-      then)
+    (record {
+      may = (
+        order_may begins h.entries h.acknowledged h.txns t x (k.not_held on) (k.nothing_logged on),
+        (
+          view_may begins shown h.entries h.acknowledged h.txns t x h.all_shown,
+          (commit_may begins shown h.entries h.acknowledged h.txns t x h.each known (k.not_held on) (k.not_acknowledged on) h.all_shown, tt),
+        ),
+      );
+      complete = record { opened = refl; grown = refl; mounted = refl; answered = is_txn_refl t };
+      holds = holds_behind _ _ _ _ then;
+    })
+    then)

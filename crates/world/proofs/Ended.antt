@@ -3,9 +3,7 @@ use Rattle.std.proofs.Common.{◌≡◌, ◌∙◌, sym, ap, subst, ℕ, List, [
 use Rattle.std.specs.Option.{option_map_or}
 use Rattle.std.specs.Map.{lookup}
 use Rattle.rc_base.specs.declared.ids.TxnId.{TxnId}
-use Rattle.script_text.specs.declared.event.Event.{Event}
 use Rattle.script_text.specs.declared.event.Event.TheVariants.{Commit}
-use Rattle.order_machine.specs.declared.observation.Observation.{Observation}
 use Rattle.order_machine.specs.declared.observation.Observation.TheVariants as says
 use Rattle.order_machine.specs.Ids.{is_txn}
 use Rattle.order_machine.specs.Order.{Entry}
@@ -33,7 +31,6 @@ not_live begins shown live m t h off =
     by_known : (o : Option Txn) → ((x : Txn) → o ≡ Some x → x.live ≡ false) → option_map_or (λ x. x.live && (x.home == 0)) o false ≡ false
     by_known None f = refl
     by_known (Some x) f = let g = f x refl in rw g refl
-
 
 -- a known transaction with one call more, which doesn't go on
 each_noted : (begins : ℕ) (live : Option TxnId) (entries : List Entry) (acknowledged : List TxnId) (txns : List (TxnId × Txn)) (t : TxnId) (x : Txn) →
@@ -92,9 +89,9 @@ ended_serves begins shown live m t h off =
     let then : Runs begins shown live (noted n t (ended_call t)) = noted_runs begins shown live m t h off (lookup (is_txn t) h.txns) refl in
     let P : Machine → Type 0 = λ at. IsWhole at (Commit 0 t) (says.Ended t ∷ []) × Runs begins shown live (moved at (Commit 0 t) (says.Ended t ∷ [])) in
     subst P (sym h.is) (served_from n (Commit 0 t) (says.Ended t ∷ []) p (Runs begins shown live) refl o
-      (record {
-        may = (record { named = refl; in_rank = refl; next = refl; row = (refl, refl) }, tt);
-        complete = record { opened = refl; grown = refl; mounted = refl; answered = refl };
-        holds = holds_behind _ _ _ _ then;
-      })
-      then)
+    (record {
+      may = (record { named = refl; in_rank = refl; next = refl; row = (refl, refl) }, tt);
+      complete = record { opened = refl; grown = refl; mounted = refl; answered = refl };
+      holds = holds_behind _ _ _ _ then;
+    })
+    then)

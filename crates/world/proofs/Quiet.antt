@@ -1,15 +1,15 @@
 -- Behind each event of a booted world nothing is pending, and its one primary is active.
-use Rattle.std.proofs.Common.{◌≡◌, ◌∙◌, sym, ap, subst, ℕ, zero, suc, List, [], ◌∷◌, Bool, true, false, cond, ◌||◌, ◌&&◌, not, Option, Some, None, refl, eqb, get_or, replicate, ◌==◌}
+use Rattle.std.proofs.Common.{◌≡◌, sym, subst, ℕ, zero, suc, List, Bool, true, false, ◌&&◌, not, Option, Some, None, refl, get_or, replicate, ◌==◌}
 use Rattle.std.specs.Option.{option_map_or}
 use Rattle.std.specs.List.{list_any}
 use Rattle.std.specs.Map.{lookup}
 use Rattle.rc_base.specs.declared.ids.TxnId.{TxnId}
 use Rattle.order_machine.specs.Ids.{is_txn}
-use Rattle.order_machine.specs.Order.{Entry, holds}
-use Rattle.order_machine.specs.Machine.{Machine, Replica, Role, Txn, never_opened, is_pending, is_active, is_alone, is_shown, role_of, has_role}
+use Rattle.order_machine.specs.Order.{Entry}
+use Rattle.order_machine.specs.Machine.{Machine, Txn, never_opened, is_pending, is_active, is_alone, has_role}
 use Rattle.order_machine.specs.Rows.{HoldsBehind}
 use Rattle.world.proofs.Txns.{apart}
-use Rattle.world.specs.World.{running, Runs, IsKept}
+use Rattle.world.specs.World.{running, Runs}
 
 -- the replicas behind the first were never opened
 pub never_there : (n k : ℕ) → get_or (replicate n never_opened) k never_opened ≡ never_opened
@@ -25,6 +25,7 @@ asked_is_done (Some x) r has acked h = by_flag x.asked (λ e. h x refl e)
     by_ack true true a e = rw e refl
     by_ack true false a e = refl
     by_ack false c a e = refl
+
     by_flag : (f : Bool) → (f ≡ true → acked ≡ true) → ((f && (x.home == r)) && (has && not acked)) ≡ false
     by_flag true g = by_ack (x.home == r) has acked (g refl)
     by_flag false g = refl
@@ -43,8 +44,9 @@ holds_behind begins shown live m h = record {
   not_shown = λ r t p. absurd (let q = nothing_pending begins shown live m h r t in cc);
   alone = λ r a. (
     let P : Machine → Type 0 = λ n. is_alone n r ≡ true → is_active n r ≡ true in
-    subst P (sym h.is) (only_primary h.entries h.acknowledged h.txns begins r) a,
-    nothing_pending begins shown live m h r);
+        subst P (sym h.is) (only_primary h.entries h.acknowledged h.txns begins r) a,
+    nothing_pending begins shown live m h r,
+  );
 }
 
 -- the same, of the machine written out

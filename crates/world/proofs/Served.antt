@@ -1,5 +1,5 @@
 -- An event that isn't refused, by where it begins.
-use Rattle.std.proofs.Common.{◌≡◌, ◌∙◌, sym, subst, List, Bool, true, Option, Some, None, refl}
+use Rattle.std.proofs.Common.{◌≡◌, sym, subst, List, None}
 use Rattle.script_text.specs.declared.event.Event.{Event}
 use Rattle.order_machine.specs.declared.observation.Observation.{Observation}
 use Rattle.order_machine.specs.Machine.{Machine}

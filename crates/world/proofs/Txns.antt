@@ -1,12 +1,9 @@
 -- On tests of transactions, and what a machine knows of one.
-use Rattle.std.proofs.Common.{◌≡◌, ◌∙◌, sym, ap, subst, ℕ, List, [], ◌∷◌, ◌++◌, Bool, true, false, cond, ◌||◌, ◌&&◌, not, Option, Some, None, refl, arith, inl, inr, ◌⊎◌}
-use Rattle.std.proofs.lemmas.Bool.Decides.{nat_tests}
+use Rattle.std.proofs.Common.{◌≡◌, ◌∙◌, sym, ap, ℕ, List, [], ◌∷◌, ◌++◌, Bool, true, false, ◌||◌, ◌&&◌, Some, refl, inl, inr, ◌⊎◌}
 use Rattle.std.proofs.lemmas.Bool.{eqb-true, eq-eqb}
-use Rattle.std.specs.List.{list_any}
-use Rattle.std.proofs.lemmas.List.Folds.{list_any-append}
 use Rattle.rc_base.specs.declared.ids.TxnId.{TxnId}
-use Rattle.order_machine.specs.Ids.{is_txn, is_epoch}
-use Rattle.order_machine.specs.Order.{Entry, holds, before}
+use Rattle.order_machine.specs.Ids.{is_txn}
+use Rattle.order_machine.specs.Order.{Entry, holds}
 
 pub apart : false ≡ true → ⊥
 apart e = cc

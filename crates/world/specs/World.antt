@@ -1,5 +1,5 @@
 -- When a world stands for a state of the machine, and what it promises of an event.
-use Rattle.std.specs.Prelude.{◌≡◌, ℕ, ◌≤◌, Bool, true, false, List, [], ◌∷◌, ◌++◌, length, replicate, Option, Some, None, Result, Ok, Err, MatchBool}
+use Rattle.std.specs.Prelude.{◌≡◌, ℕ, ◌≤◌, true, false, List, [], ◌∷◌, length, replicate, Option, Some, Result, Ok, Err, MatchBool}
 use Rattle.std.specs.Option.{option_map_or}
 use Rattle.std.specs.List.{list_any}
 use Rattle.std.specs.Map.{lookup}
@@ -19,7 +19,9 @@ use Rattle.world.specs.Kept.{Kept}
 
 abbrev pub serving : ℕ → ℕ → Replica
 serving shown begins = record {
-  up = true; show = shown; loss = 0;
+  up = true;
+  show = shown;
+  loss = 0;
   role = Some (record { epoch = first_epoch; active = true; begins = begins; idle = [] });
   surveys = [];
 }

@@ -19,7 +19,9 @@ pub enum WorldError {
     },
     /// The event waits for a later version at this state of the world, behind these lines of it.
     #[error("not built yet")]
-    Unbuilt { lines: Observations },
+    Unbuilt {
+        lines: Observations,
+    },
 }
 
 impl From<NoMemory> for WorldError {

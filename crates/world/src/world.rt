@@ -140,7 +140,12 @@ impl World {
         Ok(lines)
     }
 
-    fn commit(&mut self, number: u64, replica: ReplicaId, txn: TxnId) -> Result<Observations, WorldError>
+    fn commit(
+        &mut self,
+        number: u64,
+        replica: ReplicaId,
+        txn: TxnId,
+    ) -> Result<Observations, WorldError>
         requires first { replica ≡ 0 }
         requires rising { self.old.last < number }
         requires within { number ≤ 1000000 }

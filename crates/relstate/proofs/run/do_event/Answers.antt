@@ -1,6 +1,5 @@
-use Rattle.std.proofs.Common.{◌≡◌, ◌∙◌, sym, ap, subst, ℕ, List, ◌∷◌, ◌++◌, [], Option, Some, None, Result, Ok, Err, refl, inl, inr, take}
+use Rattle.std.proofs.Common.{◌∙◌, sym, ap, subst, List, ◌++◌, Some, Ok, Err, refl, inr, take}
 use Rattle.std.specs.Io.KnownBytes.{append_known}
-use Rattle.script_text.specs.declared.event.Event.{Event}
 use Rattle.order_machine.specs.declared.observation.Observation.{Observation}
 use Rattle.order_machine.specs.Machine.{empty_machine}
 use Rattle.order_machine.specs.Legal.{moved_all}

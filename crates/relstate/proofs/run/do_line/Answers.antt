@@ -1,6 +1,5 @@
-use Rattle.std.proofs.Common.{◌≡◌, ◌∙◌, sym, ap, subst, ℕ, List, ◌∷◌, ◌++◌, [], Option, Some, None, Result, Ok, Err, refl, inl, inr}
+use Rattle.std.proofs.Common.{ap, subst, ℕ, List, Option, Err, inl}
 use Rattle.std.specs.Option.{IfSome, IfNone}
-use Rattle.rc_io.specs.Lines.{line_text}
 use Rattle.script_text.specs.declared.event.Event.{Event}
 use Rattle.script_text.specs.Sentence.{Spells, IsSkipped, IsBad}
 use Rattle.relstate.proofs.Reach.{ends_at_bad_line, after_skipped}

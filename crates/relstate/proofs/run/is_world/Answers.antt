@@ -1,5 +1,5 @@
-use Rattle.std.proofs.Common.{◌≡◌, ◌∙◌, sym, ap, subst, ℕ, suc, ◌≤◌, ◌<◌, List, [], ◌∷◌, length, map, get_or, string_bytes, IsTrue, Bool, true, false, arith, refl, String, Global}
-use Rattle.std.specs.Cmp.Lexicographic.{pointwise, bytes_decides}
+use Rattle.std.proofs.Common.{◌≡◌, ◌∙◌, sym, ap, ℕ, suc, ◌≤◌, ◌<◌, List, [], ◌∷◌, length, map, get_or, string_bytes, IsTrue, Bool, true, false, arith, refl, String, Global}
+use Rattle.std.specs.Cmp.Lexicographic.{bytes_decides}
 use Rattle.relstate.proofs.run.is_world.Goals as goal
 
 one_word : (xs : List (String Global)) (w : String Global) → 1 ≤ length xs → length xs < 2 → w ≡ get_or xs 0 w → map string_bytes xs ≡ string_bytes w ∷ []

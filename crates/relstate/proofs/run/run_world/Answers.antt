@@ -1,8 +1,8 @@
-use Rattle.std.proofs.Common.{◌≡◌, ◌∙◌, sym, ap, subst, ℕ, ◌+◌, ◌≤◌, List, ◌∷◌, ◌++◌, [], length, sum_by, Option, Some, None, Result, Ok, Err, refl, inl, inr, arith}
+use Rattle.std.proofs.Common.{◌∙◌, sym, ap, ◌+◌, ◌++◌, length, sum_by, refl, inl, inr, arith}
 use Rattle.rc_io.specs.Lines.{raw_lines}
 use Rattle.rc_io.specs.Limits.{limit_of}
 use Rattle.relstate.specs.Ran.{AtEnd, CutShort}
-use Rattle.relstate.proofs.Reach.{at_first, nothing_done, at_line, next_reached, ends_at_limit, stops}
+use Rattle.relstate.proofs.Reach.{nothing_done, at_line, next_reached, ends_at_limit, stops}
 use Rattle.relstate.proofs.run.run_world.Goals as goal
 
 pub returns-in_default-clause-ran : goal.returns-in_default-clause-ran

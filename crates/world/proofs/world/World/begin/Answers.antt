@@ -1,4 +1,4 @@
-use Rattle.std.proofs.Common.{◌≡◌, ◌∙◌, sym, ap, subst, ◌++◌, ◌∷◌, []}
+use Rattle.std.proofs.Common.{◌∙◌, sym, ap, subst, ◌++◌, ◌∷◌, []}
 use Rattle.order_machine.specs.declared.observation.Observation.TheVariants as says
 use Rattle.world.specs.World.{StandsFor}
 use Rattle.world.proofs.Begin.{next}
