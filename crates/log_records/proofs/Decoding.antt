@@ -1,5 +1,5 @@
 -- What a decoder gives, from what its reading takes and takes again.
-use Rattle.std.proofs.Common.{◌≡◌, ℕ, ◌+◌, List, [], ◌∷◌, ◌++◌, length, drop, Result, Ok, Err, refl, sym, ap, ◌∙◌, arith, length-append}
+use Rattle.std.proofs.Common.{◌≡◌, ℕ, List, ◌++◌, length, drop, Result, Ok, Err, refl, sym, ap, ◌∙◌, arith, length-append}
 use Rattle.std.specs.Prelude.{IfOk}
 use Rattle.std.proofs.lemmas.List.{drop_at}
 use Rattle.rc_base.specs.Fields.{Reader}
@@ -8,7 +8,7 @@ use Rattle.log_records.specs.declared.error.CodecError.{CodecError}
 use Rattle.log_records.specs.declared.error.CodecError.TheVariants as errors
 use Rattle.log_records.specs.Spelling.{joined, IsSpelled, IsReadAs, HasOneSpelling}
 use Rattle.log_records.specs.Reading.{start, GivesFront}
-use Rattle.log_records.proofs.Steps.{Step, Takes, Again, gave, ok_is}
+use Rattle.log_records.proofs.Steps.{Takes, Again, gave, ok_is}
 
 module _ {X : Type 0} (read : Reader → Result (X × Reader) ℕ) (fields : X → List (List ℕ)) (Fits : X → Type 0) where
   pub found_from : Takes read fields Fits → (result : Result (X × ℕ) CodecError) (bytes : List ℕ) → IsBytes bytes → GivesFront result (read (start bytes)) → IfOk result (IsSpelled fields Fits bytes)

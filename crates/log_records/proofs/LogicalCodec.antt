@@ -1,6 +1,6 @@
 -- Logical records.
-use Rattle.std.proofs.Common.{◌≡◌, ℕ, ◌^◌, ◌<◌, lit<, Bool, true, false, cond, eqb, List, [], ◌∷◌, ◌++◌, Option, Some, None, Result, Ok, Err, refl, sym, ap, subst, ◌∙◌}
-use Rattle.std.specs.Int.{w8, w32, w64, w128, to_be_bytes}
+use Rattle.std.proofs.Common.{◌≡◌, ℕ, lit<, Bool, cond, eqb, List, [], ◌∷◌, ◌++◌, Err, refl, subst}
+use Rattle.std.specs.Int.{w8, w64}
 use Rattle.rc_base.specs.Fields.{Reader}
 use Rattle.rc_base.specs.declared.ids.Epoch.{Epoch}
 use Rattle.rc_base.specs.declared.ids.Lsn.{Lsn}
@@ -8,9 +8,9 @@ use Rattle.rc_base.specs.declared.ids.TxnId.{TxnId}
 use Rattle.coll_model.specs.declared.op.Op.{Op}
 use Rattle.log_records.specs.declared.record.Record.{Record}
 use Rattle.log_records.specs.declared.record.Record.TheVariants.{Begin, Operation, End, Barrier, EpochStart}
-use Rattle.log_records.specs.Spelling.{byte, long, flag, epoch, txn, op, logical, joined, OpFits, EpochInRange, TxnInRange, LogicalFits, LogicalInRange, IsLogical}
-use Rattle.log_records.specs.Reading.{◌>>=◌, read_number, read_flag, read_epoch, read_txn, read_op, read_begin, read_operation, read_end, read_barrier, read_epoch_start, read_logical}
-use Rattle.log_records.proofs.Steps.{Step, Takes, Again, Branch, bind_ok, done, gave, one_takes, one_again, two_takes, two_again, three_takes, three_again, pick, nothing}
+use Rattle.log_records.specs.Spelling.{byte, long, flag, epoch, txn, op, logical, OpFits, EpochInRange, TxnInRange, IsLogical}
+use Rattle.log_records.specs.Reading.{read_number, read_flag, read_epoch, read_txn, read_op, read_begin, read_operation, read_end, read_barrier, read_epoch_start, read_logical}
+use Rattle.log_records.proofs.Steps.{Step, Takes, Again, Branch, bind_ok, one_takes, one_again, three_takes, three_again, pick, nothing}
 use Rattle.log_records.proofs.FieldCodec.{Long, longs, flags, tag_takes, tag_again, long_takes, long_again, flag_takes, flag_again, epoch_takes, epoch_again, txn_takes, txn_again}
 use Rattle.log_records.proofs.OpCodec.{op_takes, op_again}
 

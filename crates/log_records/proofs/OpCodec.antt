@@ -1,13 +1,12 @@
 -- Operations.
-use Rattle.std.proofs.Common.{◌≡◌, ℕ, ◌^◌, ◌<◌, lit<, Bool, true, false, cond, eqb, List, [], ◌∷◌, ◌++◌, Option, Some, None, Result, Ok, Err, refl, sym, ap, subst, ◌∙◌}
-use Rattle.std.specs.Int.{w8, w32, w64, w128, to_be_bytes}
+use Rattle.std.proofs.Common.{◌≡◌, ℕ, lit<, cond, eqb, List, [], ◌∷◌, Err, refl, subst}
+use Rattle.std.specs.Int.{w8}
 use Rattle.rc_base.specs.Fields.{Reader}
-use Rattle.coll_model.specs.declared.op.Kind.{Kind}
 use Rattle.coll_model.specs.declared.op.Op.{Op}
 use Rattle.coll_model.specs.declared.op.Op.TheVariants.{Make, Unmake, Put, Del, Push, Pop}
-use Rattle.log_records.specs.Spelling.{byte, name, string, kind, op, joined, OpFits}
-use Rattle.log_records.specs.Reading.{◌>>=◌, read_number, read_name, read_key, read_value, read_kind, read_make, read_unmake, read_put, read_del, read_push, read_pop, read_op}
-use Rattle.log_records.proofs.Steps.{Step, Takes, Again, Branch, bind_ok, done, gave, one_takes, one_again, two_takes, two_again, three_takes, three_again, pick, nothing}
+use Rattle.log_records.specs.Spelling.{byte, name, string, kind, op, OpFits}
+use Rattle.log_records.specs.Reading.{read_number, read_name, read_key, read_value, read_kind, read_make, read_unmake, read_put, read_del, read_push, read_pop, read_op}
+use Rattle.log_records.proofs.Steps.{Step, Takes, Again, Branch, bind_ok, one_takes, one_again, two_takes, two_again, three_takes, three_again, pick, nothing}
 use Rattle.log_records.proofs.FieldCodec.{IsName, IsKey, IsValue, names, strings, kinds_of, tag_takes, tag_again, name_takes, name_again, key_takes, key_again, value_takes, value_again, kind_takes, kind_again}
 
 make_branch : Branch read_make 1 op OpFits

@@ -1,15 +1,14 @@
 -- Physical records.
-use Rattle.std.proofs.Common.{◌≡◌, ℕ, ◌^◌, ◌<◌, lit<, Bool, true, false, cond, eqb, List, [], ◌∷◌, ◌++◌, Option, Some, None, Result, Ok, Err, refl, sym, ap, subst, ◌∙◌}
-use Rattle.std.specs.Int.{w8, w32, w64, w128, to_be_bytes}
+use Rattle.std.proofs.Common.{◌≡◌, ℕ, lit<, cond, eqb, List, [], ◌∷◌, ◌++◌, Err, refl, subst}
+use Rattle.std.specs.Int.{w8, w64, w128, to_be_bytes}
 use Rattle.rc_base.specs.Fields.{Reader}
 use Rattle.rc_base.specs.declared.ids.Epoch.{Epoch}
-use Rattle.rc_base.specs.declared.ids.Lsn.{Lsn}
 use Rattle.log_records.specs.declared.record.Record.{Record}
 use Rattle.log_records.specs.declared.record.Physical.{Physical}
 use Rattle.log_records.specs.declared.record.Physical.TheVariants.{Logical, Fence, TruncateTail, CheckpointDone, Reset, Head}
-use Rattle.log_records.specs.Spelling.{byte, long, epoch, logical, physical, joined, EpochInRange, LogicalFits, LogicalInRange, IsLogical, PhysicalFits, PhysicalInRange, IsPhysical}
-use Rattle.log_records.specs.Reading.{◌>>=◌, read_number, read_slot, read_format, read_epoch, read_logical, read_logged, read_fence, read_truncate_tail, read_checkpoint_done, read_reset, read_head, read_physical}
-use Rattle.log_records.proofs.Steps.{Step, Takes, Again, Branch, bind_ok, done, gave, one_takes, one_again, two_takes, two_again, three_takes, three_again, pick, nothing}
+use Rattle.log_records.specs.Spelling.{byte, long, epoch, logical, physical, EpochInRange, IsLogical, IsPhysical}
+use Rattle.log_records.specs.Reading.{read_number, read_slot, read_format, read_epoch, read_logical, read_logged, read_fence, read_truncate_tail, read_checkpoint_done, read_reset, read_head, read_physical}
+use Rattle.log_records.proofs.Steps.{Step, Takes, Again, Branch, bind_ok, one_takes, one_again, three_takes, three_again, pick, nothing}
 use Rattle.log_records.proofs.FieldCodec.{Long, Wide, IsSlot, IsFormat, longs, wides, bytes_of, tag_takes, tag_again, long_takes, long_again, wide_takes, wide_again, slot_takes, slot_again, format_takes, format_again, epoch_takes, epoch_again}
 use Rattle.log_records.proofs.LogicalCodec.{lsn, logical_takes, logical_again}
 

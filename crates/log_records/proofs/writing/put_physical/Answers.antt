@@ -1,4 +1,4 @@
-use Rattle.std.proofs.Common.{[], ◌∷◌, ◌++◌}
+use Rattle.std.proofs.Common.{[], ◌∷◌}
 use Rattle.std.specs.Int.{w128, to_be_bytes}
 use Rattle.log_records.specs.Spelling.{byte, long}
 use Rattle.log_records.proofs.Appending.{more, last}
