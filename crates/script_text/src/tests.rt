@@ -3,23 +3,16 @@ use std::test::*;
 
 #[test]
 fn each_sentence(rt: HostRuntime) -> Result<(), Fail> {
-    let Some(Event::Boot(p, members)) = read_event(rt.alloc(), b"boot 0 0")? else {
-        return Err(Fail::from("boot"));
-    };
-    assert_eq!(rt; p.number(), 0);
-    assert_eq!(rt; members.as_slice().len(), 1);
-    let Some(Event::Begin(r)) = read_event(rt.alloc(), b"begin 0")? else {
-        return Err(Fail::from("begin"));
-    };
-    assert_eq!(rt; r.number(), 0);
-    let line = b"commit 0 0.4294967295.18446744073709551615";
-    let Some(Event::Commit(r, t)) = read_event(rt.alloc(), line)? else {
-        return Err(Fail::from("commit"));
-    };
-    assert_eq!(rt; r.number(), 0);
-    assert_eq!(rt;
-        (t.epoch.loss, t.epoch.number, t.n),
-        (0, 4294967295, 18446744073709551615)
+    let boot = read_event(rt.alloc(), b"boot 0 0")?;
+    assert!(rt;
+        matches!(&boot, Some(Event::Boot(p, members)) if p.number() == 0 && members.as_slice().len() == 1)
+    );
+    let begin = read_event(rt.alloc(), b"begin 0")?;
+    assert!(rt; matches!(&begin, Some(Event::Begin(r)) if r.number() == 0));
+    let commit = read_event(rt.alloc(), b"commit 0 0.4294967295.18446744073709551615")?;
+    assert!(rt;
+        matches!(&commit, Some(Event::Commit(r, t)) if r.number() == 0
+        && (t.epoch.loss, t.epoch.number, t.n) == (0, 4294967295, 18446744073709551615))
     );
     Ok(())
 }
