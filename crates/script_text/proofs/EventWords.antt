@@ -1,16 +1,15 @@
 -- What stands in the words of each event, and that the words tell the event.
-use Rattle.std.proofs.Common.{◌≡◌, ℕ, ◌<◌, ◌^◌, List, [], ◌∷◌, length, get_or, take, drop, suc, ◌-◌, map, decimal, codes, Bool, true, ◌≤◌, false, eqb, refl, sym, ap, subst, ◌∙◌, arith, rules, lit<}
+use Rattle.std.proofs.Common.{◌≡◌, ℕ, ◌<◌, List, [], ◌∷◌, length, get_or, take, drop, suc, ◌-◌, decimal, Bool, true, ◌≤◌, eqb, refl, sym, ap, subst, ◌∙◌, arith, rules, lit<}
 use Rattle.std.proofs.lemmas.Fmt.{decimal_injective}
 use Rattle.std.specs.Borrow.{Bor}
-use Rattle.std.specs.List.{slice_split, join_with_byte}
+use Rattle.std.specs.List.{slice_split}
 use Rattle.std.specs.Str.{bytes_eq}
 use Rattle.std.proofs.lemmas.List.{take_all}
 use Rattle.std.proofs.lemmas.Slice.Eq.{bytes_eq-Decides}
-use Rattle.rc_base.specs.declared.ids.Epoch.{Epoch}
 use Rattle.rc_base.specs.declared.ids.TxnId.{TxnId}
 use Rattle.script_text.specs.declared.event.Event.{Event}
 use Rattle.script_text.specs.declared.event.Event.TheVariants.{Boot, Begin, Commit}
-use Rattle.script_text.specs.Sentence.{words_of, text_of, txn_text, members_text, IsTxn, IsBuilt, Spells}
+use Rattle.script_text.specs.Sentence.{words_of, txn_text, members_text, IsTxn, IsBuilt, Spells}
 use Rattle.script_text.specs.Reading.{texts, txn_parts, IsSentence}
 use Rattle.script_text.proofs.Numbers.{Lacks, Lacks-decimal}
 use Rattle.script_text.proofs.Parts.{AllLack, Lacks-joined, joined_from_parts, parts_from_joined}

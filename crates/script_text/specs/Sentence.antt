@@ -1,6 +1,6 @@
 -- The sentences of a script. Each event has one text: its words, with one space between each two. Numbers are decimal,
 -- without leading zeros. An epoch is LOSS.NUMBER, a transaction LOSS.NUMBER.N, and members are numbers joined by commas.
-use Rattle.std.specs.Prelude.{◌≡◌, ◌≢◌, ◌<◌, ◌^◌, ◌++◌, ℕ, List, [], ◌∷◌, map, codes, decimal, All}
+use Rattle.std.specs.Prelude.{◌≡◌, ◌<◌, ◌^◌, ℕ, List, [], ◌∷◌, map, codes, decimal}
 use Rattle.std.specs.List.{join_with_byte}
 use Rattle.rc_base.specs.declared.ids.Epoch.{Epoch}
 use Rattle.rc_base.specs.declared.ids.TxnId.{TxnId}

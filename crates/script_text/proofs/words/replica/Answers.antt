@@ -1,4 +1,4 @@
-use Rattle.std.proofs.Common.{◌<◌, arith}
+use Rattle.std.proofs.Common.{arith}
 use Rattle.std.proofs.lemmas.Grind.{common_steps}
 use Rattle.script_text.proofs.Numbers.{same_number, narrowed, replica_of_number}
 use Rattle.script_text.proofs.words.replica.Goals as goal
