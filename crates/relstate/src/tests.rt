@@ -13,13 +13,24 @@ fn ran(
 ) -> Result<(u8, Vec<u8>), AllocError> {
     let mut words = Vec::new(alloc);
     words.push(String::from_str(alloc, "world")?)?;
+    ran_with(alloc, &words, script, room, fails)
+}
+
+// The same with these words.
+fn ran_with(
+    alloc: Global,
+    words: &[String],
+    script: &[u8],
+    room: Option<u64>,
+    fails: Vec<u64>,
+) -> Result<(u8, Vec<u8>), AllocError> {
     let mut source = MemSource::new(Vec::from_slice(alloc, script)?, fails);
     let mut sink = MemSink::new(alloc, room, Vec::new(alloc));
     let mut fleet = nine_disks(alloc)?;
     let mut host = MemHost::new(alloc, Vec::new(alloc));
     let status = run(
         alloc,
-        &words,
+        words,
         &mut source,
         &mut sink,
         &mut fleet,
@@ -48,6 +59,21 @@ fn empty_script(rt: HostRuntime) -> Result<(), Fail> {
     let (status, text) = ran(alloc, b"", None, Vec::new(alloc))?;
     assert_eq!(rt; status, 0);
     assert_eq!(rt; text.len(), 0);
+    Ok(())
+}
+
+#[test]
+fn wrong_words(rt: HostRuntime) -> Result<(), Fail> {
+    let alloc = rt.alloc();
+    let usage = b"usage world | store FOLDER [PARTITION] | drill SEED COUNT\n";
+    let mut words = Vec::new(alloc);
+    let (status, text) = ran_with(alloc, &words, b"boot 0 0\n", None, Vec::new(alloc))?;
+    assert_eq!(rt; status, 2);
+    assert_eq!(rt; text.as_slice(), usage.as_slice());
+    words.push(String::from_str(alloc, "help")?)?;
+    let (status, text) = ran_with(alloc, &words, b"boot 0 0\n", None, Vec::new(alloc))?;
+    assert_eq!(rt; status, 2);
+    assert_eq!(rt; text.as_slice(), usage.as_slice());
     Ok(())
 }
 
