@@ -1,11 +1,17 @@
 -- The sentences of a script. Each event has one text: its words, with one space between each two. Numbers are decimal,
 -- without leading zeros. An epoch is LOSS.NUMBER, a transaction LOSS.NUMBER.N, and members are numbers joined by commas.
-use Rattle.std.specs.Prelude.{◌≡◌, ◌<◌, ◌^◌, ℕ, List, [], ◌∷◌, map, codes, decimal}
+use Rattle.std.specs.Prelude.{◌≡◌, ◌<◌, ◌^◌, ℕ, List, [], ◌∷◌, map, codes, decimal, IsTrue}
 use Rattle.std.specs.List.{join_with_byte}
 use Rattle.rc_base.specs.declared.ids.Epoch.{Epoch}
 use Rattle.rc_base.specs.declared.ids.TxnId.{TxnId}
+use Rattle.rc_base.specs.Names.{is_name}
+use Rattle.coll_model.specs.declared.op.Kind.{Kind}
+use Rattle.coll_model.specs.declared.op.Kind.TheVariants as kinds
 use Rattle.script_text.specs.declared.event.Event.{Event}
-use Rattle.script_text.specs.declared.event.Event.TheVariants.{Boot, Begin, Commit}
+use Rattle.script_text.specs.declared.event.Event.TheVariants.{Boot, Client}
+use Rattle.script_text.specs.declared.event.Call.{Call}
+use Rattle.script_text.specs.declared.event.Call.TheVariants as calls
+use Rattle.script_text.specs.Letters.{is_key_word, is_value_word}
 
 -- ---- words
 
@@ -20,13 +26,24 @@ txn_text t = join_with_byte 46 (decimal t.epoch.loss ∷ decimal t.epoch.number 
 abbrev pub members_text : List ℕ → List ℕ
 members_text members = join_with_byte 44 (map decimal members)
 
+abbrev pub kind_text : Kind → List ℕ
+kind_text kinds.Dict = codes "dict"
+kind_text kinds.Queue = codes "queue"
+
 -- ---- sentences
 
--- the words of an event's sentence: one line for each form
+-- the words of a call's sentence at a replica: one line for each form
+abbrev pub words_at : ℕ → Call → List (List ℕ)
+words_at r calls.Begin = codes "begin" ∷ decimal r ∷ []
+words_at r (calls.Make t name kind) = codes "make" ∷ decimal r ∷ txn_text t ∷ name ∷ kind_text kind ∷ []
+words_at r (calls.Get t name key) = codes "get" ∷ decimal r ∷ txn_text t ∷ name ∷ key ∷ []
+words_at r (calls.Set t name key value) = codes "set" ∷ decimal r ∷ txn_text t ∷ name ∷ key ∷ value ∷ []
+words_at r (calls.Commit t) = codes "commit" ∷ decimal r ∷ txn_text t ∷ []
+
+-- the words of an event's sentence
 abbrev pub words_of : Event → List (List ℕ)
 words_of (Boot p members) = codes "boot" ∷ decimal p ∷ members_text members ∷ []
-words_of (Begin r) = codes "begin" ∷ decimal r ∷ []
-words_of (Commit r t) = codes "commit" ∷ decimal r ∷ txn_text t ∷ []
+words_of (Client r call) = words_at r call
 
 -- 32 is a space
 abbrev pub text_of : Event → List ℕ
@@ -40,11 +57,22 @@ IsEpoch e = (e.loss < 2 ^ 32) × (e.number < 2 ^ 32)
 abbrev pub IsTxn : TxnId → Type 0
 IsTxn t = IsEpoch t.epoch × (t.n < 2 ^ 64)
 
--- Replica 0 is the one there is, and no loss was ever declared: each other sentence waits for a later version.
+-- a transaction before the first declared loss: no loss can be declared yet
+abbrev pub IsBuiltTxn : TxnId → Type 0
+IsBuiltTxn t = IsTxn t × (t.epoch.loss ≡ 0)
+
+-- the words of a call have their letters and lengths, and its collections are of a kind that is built
+abbrev pub IsBuiltCall : Call → Type 0
+IsBuiltCall calls.Begin = Unit {0}
+IsBuiltCall (calls.Make t name kind) = IsBuiltTxn t × IsTrue (is_name name) × (kind ≡ kinds.Dict)
+IsBuiltCall (calls.Get t name key) = IsBuiltTxn t × IsTrue (is_name name) × IsTrue (is_key_word key)
+IsBuiltCall (calls.Set t name key value) = IsBuiltTxn t × IsTrue (is_name name) × IsTrue (is_key_word key) × IsTrue (is_value_word value)
+IsBuiltCall (calls.Commit t) = IsBuiltTxn t
+
+-- Replica 0 is the one there is: each other sentence waits for a later version.
 abbrev pub IsBuilt : Event → Type 0
 IsBuilt (Boot p members) = (p ≡ 0) × (members ≡ 0 ∷ [])
-IsBuilt (Begin r) = r ≡ 0
-IsBuilt (Commit r t) = (r ≡ 0) × IsTxn t × (t.epoch.loss ≡ 0)
+IsBuilt (Client r call) = (r ≡ 0) × IsBuiltCall call
 
 -- ---- lines
 

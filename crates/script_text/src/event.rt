@@ -1,14 +1,29 @@
 use crate::replicas::Replicas;
-use rc_base::{ReplicaId, TxnId};
+use coll_model::Kind;
+use rc_base::{Bytes, Name, ReplicaId, TxnId};
 
-/// One event of a script. There is one variant for each form of sentence that is built so far, with the sentence's
-/// words as its fields, in order.
+/// One event of a script: what a client asks of a replica, or what happens to the world. There is one variant for each
+/// form of sentence that is built so far, with the sentence's words as its fields, in order; those of the clients are
+/// the variants of `Call`.
 #[derive(Debug, Drop)]
 pub enum Event {
     /// `boot P MEMBERS`: opens the members and starts epoch 0.1 with P as its primary.
     Boot(ReplicaId, Replicas),
-    /// `begin R`: begins a transaction at R.
-    Begin(ReplicaId),
-    /// `commit R T`: asks R to commit T.
-    Commit(ReplicaId, TxnId),
+    /// A client's call at a replica.
+    Client(ReplicaId, Call),
+}
+
+/// What a client asks of a replica R.
+#[derive(Debug, Drop)]
+pub enum Call {
+    /// `begin R`: begins a transaction.
+    Begin,
+    /// `make R T NAME KIND`: makes a collection, where T sees none of this name.
+    Make(TxnId, Name, Kind),
+    /// `get R T NAME KEY`: the key's value in a dictionary.
+    Get(TxnId, Name, Bytes),
+    /// `set R T NAME KEY VALUE`: gives the key the value in a dictionary.
+    Set(TxnId, Name, Bytes, Bytes),
+    /// `commit R T`: asks to commit T.
+    Commit(TxnId),
 }
