@@ -1,19 +1,22 @@
 -- Each line leaves the orders as they are, or adds an entry to one.
 use Rattle.std.proofs.Common.{◌≡◌, ◌∙◌, ℕ, true, false, ◌&&◌, List, [], ◌∷◌, ◌++◌, get_or, set, length, append-nil, append_assoc, Option, Some, None, refl, sym, ap, inl, inr}
-use Rattle.std.specs.Prelude.{is_some}
+use Rattle.std.specs.Prelude.{is_some, option_and_then}
 use Rattle.std.specs.Option.{option_map_or}
 use Rattle.std.proofs.lemmas.Bool.{cond_both, cases_lt, cases_eq}
 use Rattle.std.proofs.lemmas.List.{get_or-set_same, get_or-set_other, set_past}
 use Rattle.rc_base.specs.declared.ids.TxnId.{TxnId}
 use Rattle.coll_model.specs.declared.op.Op.{Op}
 use Rattle.script_text.specs.declared.event.Event.{Event}
-use Rattle.script_text.specs.declared.event.Event.TheVariants.{Boot, Begin, Commit}
+use Rattle.script_text.specs.declared.event.Event.TheVariants.{Boot, Client}
+use Rattle.script_text.specs.declared.event.Call.{Call}
+use Rattle.script_text.specs.declared.event.Call.TheVariants.{Begin, Make, Get, Set, Commit}
 use Rattle.order_machine.specs.declared.observation.Observation.{Observation}
 use Rattle.order_machine.specs.declared.observation.Observation.TheVariants as says
+use Rattle.order_machine.specs.declared.reply.Reply.{Reply}
 use Rattle.order_machine.specs.Order.{Entry, Order, empty_order}
 use Rattle.order_machine.specs.Machine.{Machine, Role, Txn, replica, put_role, put_txn, role_of, txn_of, order_of, is_active, is_live}
-use Rattle.order_machine.specs.Answers.{answered_at}
-use Rattle.order_machine.specs.Rows.{Position, event_primary, first_epoch, opened, asking, after, ordering, showing, with_first_role, new_role, now_active, activated}
+use Rattle.order_machine.specs.Answers.{answered_at, begun_by, noted, txn_named}
+use Rattle.order_machine.specs.Rows.{Position, event_primary, first_epoch, opened, asking, answering, answered_by, after, ordering, showing, with_first_role, new_role, now_active, activated}
 use Rattle.order_machine.specs.Legal.{Filter, Step, behind, IsBegun, moved, IsLegal, moved_all}
 use Rattle.order_machine.specs.Laws.{entries_of, OrdersGrow}
 use Rattle.order_machine.proofs.Runs.{begun_from_whole, moved_by}
@@ -34,8 +37,7 @@ grow_more m n o first then loss =
 same_first_role : (m : Machine) (event : Event) (mounts : List ℕ) → (with_first_role m event mounts).orders ≡ m.orders
 same_first_role m (Boot p members) [] = cond_both (replica m p).up (put_role m p (Some (new_role first_epoch))) m (λ x. x.orders ≡ m.orders) (λ _. refl) (λ _. refl)
 same_first_role m (Boot p members) (q ∷ mounts) = refl
-same_first_role m (Begin r) mounts = refl
-same_first_role m (Commit r t) mounts = refl
+same_first_role m (Client r call) mounts = refl
 
 same_noted : (m : Machine) (f : Txn → Txn) (t : TxnId) (o : Option Txn) → (option_map_or (λ x. put_txn m t (f x)) o m).orders ≡ m.orders
 same_noted m f t None = refl
@@ -45,11 +47,32 @@ same_active : (m : Machine) (r : ℕ) (o : Option Role) → (option_map_or (acti
 same_active m r None = refl
 same_active m r (Some role) = refl
 
-same_answered : (m : Machine) (event : Event) (o : Observation) → (answered_at m (event_primary event) event o).orders ≡ m.orders
-same_answered m (Boot p members) o = refl
-same_answered m (Commit r t) o = same_noted m (λ x. record x { calls = x.calls ++ record { call = Commit r t; answer = o; op = None } ∷ [] }) t (txn_of m t)
-same_answered m (Begin r) (says.Txn t) = refl
-same_answered m (Begin r) _ = refl
+same_begun : (m : Machine) (r : ℕ) (o : Observation) → (begun_by m r o).orders ≡ m.orders
+same_begun m r (says.Txn t) = refl
+same_begun m r (says.Up q) = refl
+same_begun m r (says.Order t ops) = refl
+same_begun m r (says.View q n) = refl
+same_begun m r (says.Active q) = refl
+same_begun m r (says.Committed t) = refl
+same_begun m r says.Done = refl
+same_begun m r (says.Refused part) = refl
+same_begun m r (says.Down q) = refl
+same_begun m r (says.NotActive q) = refl
+same_begun m r (says.Ended t) = refl
+same_begun m r says.True = refl
+same_begun m r says.False = refl
+same_begun m r (says.Value value) = refl
+same_begun m r says.Missing = refl
+same_begun m r says.Absent = refl
+same_begun m r says.WrongKind = refl
+
+same_answered_at : (m : Machine) (r : ℕ) (call : Call) (reply : Reply) (named : Option TxnId) → (option_map_or (λ t. noted m t (record { call = call; answer = reply.answer; op = reply.op })) named (begun_by m r reply.answer)).orders ≡ m.orders
+same_answered_at m r call reply None = same_begun m r reply.answer
+same_answered_at m r call reply (Some t) = same_noted m (λ x. record x { calls = x.calls ++ record { call = call; answer = reply.answer; op = reply.op } ∷ [] }) t (txn_of m t)
+
+same_answered : (m : Machine) (event : Event) (reply : Reply) → (answered_by m event reply).orders ≡ m.orders
+same_answered m (Boot p members) reply = refl
+same_answered m (Client r call) reply = same_answered_at m r call reply (txn_named call)
 
 grow_ordering : (m : Machine) (r : ℕ) (t : TxnId) (ops : List Op) → OrdersGrow m (ordering m r t ops)
 grow_ordering m r t ops loss =
@@ -65,6 +88,9 @@ grow_ordering m r t ops loss =
       | inr apart ↦ ([], ap (λ o. o.entries) (get_or-set_other m.orders at loss new empty_order apart) ∙ sym (append-nil (entries_of m loss)))
     ]
 
+grow_answer : (p : Position) (o : Observation) → OrdersGrow p.machine (answering p o).machine
+grow_answer p o = grow_same p.machine (answering p o).machine (same_answered p.machine p.event (record { answer = o; op = option_and_then (λ reply. reply.op) p.client }))
+
 grow_line : (p : Position) (o : Observation) → OrdersGrow p.machine (after p o).machine
 grow_line p (says.Order t ops) = grow_ordering p.machine (event_primary p.event) t ops
 grow_line p (says.View r n) = grow_same p.machine (after p (says.View r n)).machine
@@ -72,20 +98,32 @@ grow_line p (says.View r n) = grow_same p.machine (after p (says.View r n)).mach
 grow_line p (says.Active r) = grow_same p.machine (now_active p.machine r) (same_active p.machine r (role_of p.machine r))
 grow_line p (says.Up r) = grow_same p.machine (after p (says.Up r)).machine refl
 grow_line p (says.Committed t) = grow_same p.machine (after p (says.Committed t)).machine refl
-grow_line p says.Done = grow_same p.machine p.machine refl
-grow_line p (says.Refused part) = grow_same p.machine p.machine refl
-grow_line p (says.Txn t) = grow_same p.machine (after p (says.Txn t)).machine (same_answered p.machine p.event (says.Txn t))
-grow_line p (says.Down r) = grow_same p.machine (after p (says.Down r)).machine (same_answered p.machine p.event (says.Down r))
-grow_line p (says.NotActive r) = grow_same p.machine (after p (says.NotActive r)).machine (same_answered p.machine p.event (says.NotActive r))
-grow_line p (says.Ended t) = grow_same p.machine (after p (says.Ended t)).machine (same_answered p.machine p.event (says.Ended t))
+grow_line p says.Done = grow_answer p says.Done
+grow_line p (says.Refused part) = grow_answer p (says.Refused part)
+grow_line p (says.Txn t) = grow_answer p (says.Txn t)
+grow_line p (says.Down r) = grow_answer p (says.Down r)
+grow_line p (says.NotActive r) = grow_answer p (says.NotActive r)
+grow_line p (says.Ended t) = grow_answer p (says.Ended t)
+grow_line p says.True = grow_answer p says.True
+grow_line p says.False = grow_answer p says.False
+grow_line p (says.Value value) = grow_answer p (says.Value value)
+grow_line p says.Missing = grow_answer p says.Missing
+grow_line p says.Absent = grow_answer p says.Absent
+grow_line p says.WrongKind = grow_answer p says.WrongKind
 
 -- ---- events and runs
 
+same_asking : (m : Machine) (r : ℕ) (call : Call) → (asking m r call).orders ≡ m.orders
+same_asking m r Begin = refl
+same_asking m r (Make t name kind) = refl
+same_asking m r (Get t name key) = refl
+same_asking m r (Set t name key value) = refl
+same_asking m r (Commit t) =
+    cond_both (is_active m r && is_live m r t) (option_map_or (λ x. put_txn m t (record x { live = false; asked = true })) (txn_of m t) m) m (λ x. x.orders ≡ m.orders) (λ _. same_noted m (λ x. record x { live = false; asked = true }) t (txn_of m t)) (λ _. refl)
+
 grow_opened : (m : Machine) (event : Event) → OrdersGrow m (opened m event).machine
 grow_opened m (Boot p members) = grow_same m (opened m (Boot p members)).machine refl
-grow_opened m (Begin r) = grow_same m m refl
-grow_opened m (Commit r t) = grow_same m (asking m r t)
-    (cond_both (is_active m r && is_live m r t) (option_map_or (λ x. put_txn m t (record x { live = false; asked = true })) (txn_of m t) m) m (λ x. x.orders ≡ m.orders) (λ _. same_noted m (λ x. record x { live = false; asked = true }) t (txn_of m t)) (λ _. refl))
+grow_opened m (Client r call) = grow_same m (asking m r call) (same_asking m r call)
 
 grow_lines : (p : Position) (lines : List Observation) → OrdersGrow p.machine (behind p lines).machine
 grow_lines p [] = grow_same p.machine p.machine refl

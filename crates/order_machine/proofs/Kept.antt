@@ -52,6 +52,7 @@ pub record Kept (m : Machine) : Type 0 where
   pub once : IsDistinct is_txn (map (λ e. e.txn) order.entries)
   pub asked : AllByRecursion (IsAskedIn m.txns) order.entries
   pub unbooted : m.appointments ≡ [] → m.txns ≡ []
+  pub unasked : (t : TxnId) (x : Txn) → lookup (is_txn t) m.txns ≡ Some x → x.live ≡ true → x.asked ≡ false
 
 pub order_is : (m : Machine) (k : Kept m) (r : ℕ) → order_of m r ≡ k.order
 order_is m k r =
@@ -83,6 +84,7 @@ kept_empty = record {
   once = tt;
   asked = tt;
   unbooted = λ e. refl;
+  unasked = λ t x known. absurd (none-some x known);
 }
 
 -- ---- a change of one replica
@@ -96,6 +98,7 @@ kept_put m k r new here = record {
   once = k.once;
   asked = k.asked;
   unbooted = k.unbooted;
+  unasked = k.unasked;
 }
 
 -- one that has no role, with the same order and no greater show than the order's length
@@ -158,6 +161,7 @@ kept_ordering m k r t ops x known new asked whole =
       once = subst (IsDistinct is_txn) (sym (map_push (λ entry. entry.txn) k.order.entries e)) (IsDistinct-push is_txn_equivalence (map (λ entry. entry.txn) k.order.entries) t k.once fresh);
       asked = AllByRecursion-push (IsAskedIn m.txns) k.order.entries e k.asked (record { txn = x; known = known; asked = asked; whole = whole });
       unbooted = k.unbooted;
+      unasked = k.unasked;
     }
 
 -- ---- a transaction is acknowledged
@@ -187,6 +191,7 @@ kept_acknowledging m k r t shown elsewhere = record {
   once = k.once;
   asked = k.asked;
   unbooted = k.unbooted;
+  unasked = k.unasked;
 }
 
 -- ---- a known transaction changes
@@ -209,22 +214,23 @@ lookup_other txns t u new other = cond-false (is_txn u t) (Some new) (lookup (is
 no_txns : (m : Machine) (k : Kept m) (t : TxnId) (x : Txn) → txn_of m t ≡ Some x → m.appointments ≡ [] → ⊥
 no_txns m k t x known unbooted = none-some x (ap (λ txns. lookup (is_txn t) txns) (sym (k.unbooted unbooted)) ∙ known)
 
-asked_again : (txns : List (TxnId × Txn)) (t : TxnId) (old new : Txn) → lookup (is_txn t) txns ≡ Some old → (old.asked ≡ true → new.asked ≡ true) → ops_of old ≡ ops_of new → (e : Entry) → IsAskedIn txns e → IsAskedIn ((t, new) ∷ txns) e
-asked_again txns t old new known stays same e k =
+asked_again : (txns : List (TxnId × Txn)) (t : TxnId) (old new : Txn) → lookup (is_txn t) txns ≡ Some old → (old.asked ≡ true → (new.asked ≡ true) × (ops_of old ≡ ops_of new)) → (e : Entry) → IsAskedIn txns e → IsAskedIn ((t, new) ∷ txns) e
+asked_again txns t old new known stays e k =
     elim (cases_Bool (is_txn e.txn t)) [
       | inl here ↦
           let is : k.txn ≡ old = same_Some k.txn old (sym k.known ∙ (ap (λ u. lookup (is_txn u) txns) (is_txn-true e.txn t here) ∙ known)) in
+          let stay = stays (ap (λ x. x.asked) (sym is) ∙ k.asked) in
           record {
             txn = new;
             known = lookup_here txns t e.txn new here;
-            asked = stays (ap (λ x. x.asked) (sym is) ∙ k.asked);
-            whole = k.whole ∙ (ap ops_of is ∙ same);
+            asked = stay.0;
+            whole = k.whole ∙ (ap ops_of is ∙ stay.1);
           }
       | inr other ↦ record { txn = k.txn; known = lookup_other txns t e.txn new other ∙ k.known; asked = k.asked; whole = k.whole }
     ]
 
-pub kept_put_known : (m : Machine) (k : Kept m) (t : TxnId) (old new : Txn) → txn_of m t ≡ Some old → (old.asked ≡ true → new.asked ≡ true) → ops_of old ≡ ops_of new → Kept (put_txn m t new)
-kept_put_known m k t old new known stays same = record {
+pub kept_put_known : (m : Machine) (k : Kept m) (t : TxnId) (old new : Txn) → txn_of m t ≡ Some old → (old.asked ≡ true → (new.asked ≡ true) × (ops_of old ≡ ops_of new)) → (new.live ≡ true → new.asked ≡ false) → Kept (put_txn m t new)
+kept_put_known m k t old new known stays off = record {
   order = k.order;
   one = k.one;
   replicas = λ q. record {
@@ -240,17 +246,21 @@ kept_put_known m k t old new known stays same = record {
   };
   held = k.held;
   once = k.once;
-  asked = AllByRecursion-weaker (IsAskedIn m.txns) (IsAskedIn ((t, new) ∷ m.txns)) k.order.entries (asked_again m.txns t old new known stays same) k.asked;
+  asked = AllByRecursion-weaker (IsAskedIn m.txns) (IsAskedIn ((t, new) ∷ m.txns)) k.order.entries (asked_again m.txns t old new known stays) k.asked;
   unbooted = λ e. absurd (no_txns m k t old known e);
+  unasked = λ u y found live. lookup_new m.txns t u new y found (λ _ is. ap (λ x. x.asked) (sym is) ∙ off (ap (λ x. x.live) is ∙ live)) (λ before. k.unasked u y before live);
 }
 
--- a call that logged no operation is noted
-pub kept_noted : (m : Machine) (k : Kept m) (t : TxnId) (call : Noted) → call.op ≡ None → Kept (noted m t call)
-kept_noted m k t call none = noting (txn_of m t) refl
+-- a call is noted, which logged nothing where the transaction's commit was asked
+pub kept_noted : (m : Machine) (k : Kept m) (t : TxnId) (call : Noted) → ((x : Txn) → txn_of m t ≡ Some x → x.asked ≡ true → call.op ≡ None) → Kept (noted m t call)
+kept_noted m k t call logs = noting (txn_of m t) refl
   where
+    same_ops : (x : Txn) → call.op ≡ None → ops_of x ≡ ops_of (record x { calls = x.calls ++ call ∷ [] })
+    same_ops x none = sym (filter_map-append (λ c. c.op) x.calls (call ∷ []) ∙ (ap (λ o. filter_map (λ c. c.op) x.calls ++ cons_option o []) none ∙ append-nil (ops_of x)))
+
     noting : (o : Option Txn) → txn_of m t ≡ o → Kept (option_map_or (λ x. put_txn m t (record x { calls = x.calls ++ call ∷ [] })) o m)
     noting None known = k
-    noting (Some x) known = kept_put_known m k t x (record x { calls = x.calls ++ call ∷ [] }) known (λ h. h) (sym (filter_map-append (λ c. c.op) x.calls (call ∷ []) ∙ (ap (λ o. filter_map (λ c. c.op) x.calls ++ cons_option o []) none ∙ append-nil (ops_of x))))
+    noting (Some x) known = kept_put_known m k t x (record x { calls = x.calls ++ call ∷ [] }) known (λ asked. (asked, same_ops x (logs x known asked))) (k.unasked t x known)
 
 -- ---- a transaction begins
 
@@ -315,6 +325,7 @@ kept_begun m k r role is = record {
         whole = asked.whole;
       }) k.asked;
   unbooted = λ e. absurd (none-some (((k.replicas r).role role is).appointment) (ap (λ others. find (λ a. is_epoch role.epoch a.epoch) others) (sym e) ∙ ((k.replicas r).role role is).appointed));
+  unasked = λ u y found live. lookup_new m.txns (next_of role) u (new_txn m r) y found (λ _ new. ap (λ x. x.asked) (sym new)) (λ before. k.unasked u y before live);
 }
 
 -- ---- a primary is active
@@ -371,6 +382,7 @@ kept_activated m k r role is shows =
       once = k.once;
       asked = k.asked;
       unbooted = λ e. k.unbooted (noting_none role.epoch m.appointments e);
+      unasked = k.unasked;
     }
 
 -- ---- the one order among those by loss number

@@ -5,7 +5,8 @@ use Rattle.std.proofs.lemmas.Bool.{false≢true, cases_lt, and_right}
 use Rattle.std.proofs.lemmas.List.{get_or-replicate, get_or_past, length-replicate}
 use Rattle.std.proofs.lemmas.Option.{none-some}
 use Rattle.rc_base.specs.declared.ids.TxnId.{TxnId}
-use Rattle.script_text.specs.declared.event.Event.TheVariants.{Boot, Begin, Commit}
+use Rattle.script_text.specs.declared.event.Event.TheVariants.{Boot, Client}
+use Rattle.script_text.specs.declared.event.Call.TheVariants.{Begin, Commit}
 use Rattle.order_machine.specs.declared.observation.Observation.{Observation}
 use Rattle.order_machine.specs.declared.observation.Observation.TheVariants as says
 use Rattle.order_machine.specs.Ids.{is_txn}
@@ -86,7 +87,7 @@ whole_boot = record {
 -- ---- begin
 
 abbrev begun_machine : Machine
-begun_machine = moved booted (Begin 0) (says.Txn first_txn ∷ [])
+begun_machine = moved booted (Client 0 Begin) (says.Txn first_txn ∷ [])
 
 abbrev begun_txn : Txn
 begun_txn = record { home = 0; shown_at_begin = 0; calls = []; live = true; asked = false }
@@ -96,7 +97,7 @@ not_asked : (here : Bool) (r : ℕ) (rest : Bool) → (option_map_or (λ x. x.as
 not_asked true r rest = refl
 not_asked false r rest = refl
 
-whole_begin : IsWhole booted (Begin 0) (says.Txn first_txn ∷ [])
+whole_begin : IsWhole booted (Client 0 Begin) (says.Txn first_txn ∷ [])
 whole_begin = record {
   may = (record { named = refl; in_rank = refl; next = refl; row = (refl, refl) }, tt);
   complete = record { opened = refl; grown = refl; mounted = refl; answered = refl };
@@ -109,7 +110,7 @@ abbrev commit_lines : List Observation
 commit_lines = says.Order first_txn [] ∷ says.View 0 1 ∷ says.Committed first_txn ∷ []
 
 abbrev committed_machine : Machine
-committed_machine = moved begun_machine (Commit 0 first_txn) commit_lines
+committed_machine = moved begun_machine (Client 0 (Commit first_txn)) commit_lines
 
 abbrev asked_txn : Txn
 asked_txn = record begun_txn { live = false; asked = true }
@@ -119,7 +120,7 @@ not_pending : (here : Bool) (r : ℕ) (role : Bool) → (option_map_or (λ x. x.
 not_pending true r role = and_right (eqb 0 r) (role && false) (and_right role false refl)
 not_pending false r role = refl
 
-whole_commit : IsWhole begun_machine (Commit 0 first_txn) commit_lines
+whole_commit : IsWhole begun_machine (Client 0 (Commit first_txn)) commit_lines
 whole_commit = record {
   may = (
     record { named = refl; in_rank = refl; next = refl; row = record { txn = asked_txn; known = refl; new = refl; asked = refl; whole = refl; replays = tt } },

@@ -1,20 +1,24 @@
 -- The start of an event that isn't refused keeps what machines keep.
-use Rattle.std.proofs.Common.{◌≡◌, ◌∙◌, ℕ, Bool, true, false, ◌&&◌, cond, eqb, length, List, [], Option, Some, None, refl, sym, ap}
-use Rattle.std.specs.Prelude.{find}
+use Rattle.std.proofs.Common.{◌≡◌, ◌∙◌, ℕ, Bool, true, false, ◌&&◌, cond, eqb, length, List, [], Option, Some, None, refl, sym, ap, subst}
+use Rattle.std.specs.Prelude.{find, option_and_then, not}
 use Rattle.std.specs.Option.{option_map_or}
-use Rattle.std.proofs.lemmas.Bool.{cond_both, eqb-true, not-false}
+use Rattle.std.proofs.lemmas.Bool.{cond_both, cond-false, eqb-true, not-false, false≢true}
 use Rattle.std.proofs.lemmas.List.{nil_from_length}
 use Rattle.std.proofs.lemmas.Option.{none-some}
 use Rattle.rc_base.specs.declared.ids.TxnId.{TxnId}
+use Rattle.coll_model.specs.declared.op.Op.{Op}
 use Rattle.script_text.specs.declared.event.Event.{Event}
-use Rattle.script_text.specs.declared.event.Event.TheVariants.{Boot, Begin, Commit}
+use Rattle.script_text.specs.declared.event.Event.TheVariants.{Boot, Client}
+use Rattle.script_text.specs.declared.event.Call.{Call}
+use Rattle.script_text.specs.declared.event.Call.TheVariants.{Begin, Make, Get, Set, Commit}
 use Rattle.order_machine.specs.declared.observation.Observation.TheVariants as says
+use Rattle.order_machine.specs.declared.reply.Reply.{Reply}
 use Rattle.order_machine.specs.Ids.{is_epoch}
-use Rattle.order_machine.specs.Machine.{Machine, Txn, put_txn, txn_of, is_booted, is_active, is_live}
-use Rattle.order_machine.specs.Answers.{answer}
-use Rattle.order_machine.specs.Rows.{refusal, opened, booting, asking, first_epoch, are_members}
+use Rattle.order_machine.specs.Machine.{Machine, Txn, put_txn, txn_of, role_of, replica, is_booted, is_active, is_live, live_txn}
+use Rattle.order_machine.specs.Answers.{plain, answer, served, seen, reply_at, txn_named, next_txn}
+use Rattle.order_machine.specs.Rows.{refusal, opened, booting, asking, asking_commit, first_epoch, are_members}
 use Rattle.order_machine.proofs.Kept.{Kept, kept_put_known}
-use Rattle.order_machine.proofs.Steps.{KeptAt}
+use Rattle.order_machine.proofs.Steps.{KeptAt, IsCalling}
 
 -- ---- boot
 
@@ -39,6 +43,7 @@ kept_booting m k p members none = record {
   once = k.once;
   asked = k.asked;
   unbooted = λ e. absurd (cc);
+  unasked = k.unasked;
 }
 
 kept_boot : (m : Machine) (k : Kept m) (p : ℕ) (members : List ℕ) → refusal m (Boot p members) ≡ None → KeptAt (opened m (Boot p members))
@@ -53,45 +58,86 @@ kept_boot m k p members h =
         appointed = refl;
         first = ap boot_primary e;
       };
-      beginning = λ r e. absurd (cc);
+      calling = λ r call e. absurd (cc);
     }
   where
     boot_primary : Event → ℕ
     boot_primary (Boot q others) = q
     boot_primary _ = 0
 
--- ---- begin
+-- ---- calls
 
-kept_beginning : (m : Machine) (k : Kept m) (r : ℕ) → KeptAt (opened m (Begin r))
-kept_beginning m k r = record {
-  machine = k;
-  opening = λ q e. absurd (none-some q e);
-  booting = λ q members e. absurd (cc);
-  beginning = λ q e _. ap (λ x. answer m x (Begin x)) (begin_primary e);
-}
-  where
-    begin_primary : {a b : ℕ} → Begin a ≡ Begin b → a ≡ b
-    begin_primary e = cc
-
--- ---- commit
-
-kept_asking : (m : Machine) (k : Kept m) (r : ℕ) (t : TxnId) → Kept (asking m r t)
-kept_asking m k r t =
+kept_asking_commit : (m : Machine) (k : Kept m) (r : ℕ) (t : TxnId) → Kept (asking_commit m r t)
+kept_asking_commit m k r t =
     cond_both (is_active m r && is_live m r t) (option_map_or (λ x. put_txn m t (record x { live = false; asked = true })) (txn_of m t) m) m Kept (λ _. asked (txn_of m t) refl) (λ _. k)
   where
     asked : (o : Option Txn) → txn_of m t ≡ o → Kept (option_map_or (λ x. put_txn m t (record x { live = false; asked = true })) o m)
     asked None known = k
-    asked (Some x) known = kept_put_known m k t x (record x { live = false; asked = true }) known (λ _. refl) refl
+    asked (Some x) known = kept_put_known m k t x (record x { live = false; asked = true }) known (λ _. (refl, refl)) (λ live. absurd (false≢true live))
 
-kept_commit : (m : Machine) (k : Kept m) (r : ℕ) (t : TxnId) → KeptAt (opened m (Commit r t))
-kept_commit m k r t = record {
-  machine = kept_asking m k r t;
+kept_asking : (m : Machine) (k : Kept m) (r : ℕ) (call : Call) → Kept (asking m r call)
+kept_asking m k r Begin = k
+kept_asking m k r (Make t name kind) = k
+kept_asking m k r (Get t name key) = k
+kept_asking m k r (Set t name key value) = k
+kept_asking m k r (Commit t) = kept_asking_commit m k r t
+
+-- the operation of an answer is that of an open, active primary's
+abbrev op_of : Option Reply → Option Op
+op_of o = option_and_then (λ reply. reply.op) o
+
+op_served : (up active : Bool) (r : ℕ) (o : Option Reply) → op_of o ≡ None → op_of (cond (not up) (Some (plain (says.Down r))) (cond (not active) (Some (plain (says.NotActive r))) o)) ≡ None
+op_served false active r o h = refl
+op_served true false r o h = refl
+op_served true true r o h = h
+
+-- no call of a transaction logs anything once its commit was asked
+logs_nothing : (m : Machine) (k : Kept m) (r : ℕ) (call : Call) (t : TxnId) (x : Txn) → txn_named call ≡ Some t → txn_of m t ≡ Some x → x.asked ≡ true → op_of (answer m r call) ≡ None
+logs_nothing m k r call t x named known asked =
+    op_served (replica m r).up (is_active m r) r (served m r call)
+    (ap (λ o. op_of (option_map_or (λ u. option_map_or (λ y. reply_at (seen m r y) call) (live_txn m r u) (Some (plain (says.Ended u)))) o (Some (plain (says.Txn (next_txn (role_of m r))))))) named
+    ∙ ap (λ o. op_of (option_map_or (λ y. reply_at (seen m r y) call) o (Some (plain (says.Ended t))))) not_live)
+  where
+    by_live : (live here : Bool) → (live ≡ true → ⊥) → (live && here) ≡ false
+    by_live true here h = absurd (h refl)
+    by_live false here h = refl
+
+    not_live : live_txn m r t ≡ None
+    not_live =
+        cond-false (is_live m r t) (txn_of m t) None
+        (ap (λ o. option_map_or (λ y. y.live && eqb y.home r) o false) known ∙ by_live x.live (eqb x.home r) (λ live. false≢true (sym (k.unasked t x known live) ∙ asked)))
+
+no_op_of_commit : (m : Machine) (r : ℕ) (t : TxnId) → op_of (answer m r (Commit t)) ≡ None
+no_op_of_commit m r t = op_served (replica m r).up (is_active m r) r (served m r (Commit t)) (by_live (live_txn m r t))
+  where
+    by_live : (o : Option Txn) → op_of (option_map_or (λ y. None) o (Some (plain (says.Ended t)))) ≡ None
+    by_live None = refl
+    by_live (Some y) = refl
+
+calling_opened : (m : Machine) (k : Kept m) (r : ℕ) (call : Call) → IsCalling (asking m r call) r call (answer m r call)
+calling_opened m k r Begin = record { begins = λ e. refl; logs = λ t x e. absurd (none-some t e) }
+calling_opened m k r (Make u name kind) = record { begins = λ e. absurd (none-some u (sym e)); logs = logs_nothing m k r (Make u name kind) }
+calling_opened m k r (Get u name key) = record { begins = λ e. absurd (none-some u (sym e)); logs = logs_nothing m k r (Get u name key) }
+calling_opened m k r (Set u name key value) = record { begins = λ e. absurd (none-some u (sym e)); logs = logs_nothing m k r (Set u name key value) }
+calling_opened m k r (Commit u) = record { begins = λ e. absurd (none-some u (sym e)); logs = λ t x e known asked. no_op_of_commit m r u }
+
+kept_call : (m : Machine) (k : Kept m) (r : ℕ) (call : Call) → KeptAt (opened m (Client r call))
+kept_call m k r call = record {
+  machine = kept_asking m k r call;
   opening = λ q e. absurd (none-some q e);
   booting = λ q members e. absurd (cc);
-  beginning = λ q e. absurd (cc);
+  calling = λ q other e _.
+      subst (λ x. IsCalling (asking m r call) x other (answer m r call)) (ap (replica_called r) e) (subst (λ x. IsCalling (asking m r call) r x (answer m r call)) (ap (called call) e) (calling_opened m k r call));
 }
+  where
+    replica_called : ℕ → Event → ℕ
+    replica_called default (Client q other) = q
+    replica_called default (Boot p members) = default
+
+    called : Call → Event → Call
+    called default (Client q other) = other
+    called default (Boot p members) = default
 
 pub kept_opened : (m : Machine) (k : Kept m) (event : Event) → refusal m event ≡ None → KeptAt (opened m event)
 kept_opened m k (Boot p members) h = kept_boot m k p members h
-kept_opened m k (Begin r) h = kept_beginning m k r
-kept_opened m k (Commit r t) h = kept_commit m k r t
+kept_opened m k (Client r call) h = kept_call m k r call

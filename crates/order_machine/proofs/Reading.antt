@@ -133,6 +133,14 @@ AllLack-op_texts (op ∷ ops) h = (Lacks-joined 32 58 (op_parts op) refl (AllLac
 
 -- ---- observations
 
+answer_from : List ℕ → List ℕ → Observation
+answer_from form second =
+    cond (is_word form (codes "true")) says.True
+    (cond (is_word form (codes "false")) says.False
+    (cond (is_word form (codes "value")) (says.Value second)
+    (cond (is_word form (codes "none")) says.Missing
+    (cond (is_word form (codes "absent")) says.Absent says.WrongKind))))
+
 observation_from : List (List ℕ) → Observation
 observation_from words =
     let form = get_or words 0 [] in
@@ -146,10 +154,11 @@ observation_from words =
     (cond (is_word form (codes "ok")) says.Done
     (cond (is_word form (codes "refused")) (says.Refused (number second))
     (cond (is_word form (codes "down")) (says.Down (number second))
-    (cond (is_word form (codes "notactive")) (says.NotActive (number second)) (says.Ended (txn second)))))))))))
+    (cond (is_word form (codes "notactive")) (says.NotActive (number second))
+    (cond (is_word form (codes "ended")) (says.Ended (txn second)) (answer_from form second)))))))))))
 
 observation_from-words_of : (o : Observation) → IsPrintable o → observation_from (words_of o) ≡ o
-unfolding observation_from is_word
+unfolding observation_from answer_from is_word
 observation_from-words_of (says.Up r) h = ap says.Up (number-decimal r h)
 observation_from-words_of (says.Order t ops) h = ap₂ says.Order (txn-txn_text t h.0) (operations-op_text ops (recursion_from_All IsPlainOp ops h.1))
 observation_from-words_of (says.View r n) h = ap₂ says.View (number-decimal r h.0) (number-decimal n h.1)
@@ -161,6 +170,12 @@ observation_from-words_of (says.Refused part) h = ap says.Refused (number-decima
 observation_from-words_of (says.Down r) h = ap says.Down (number-decimal r h)
 observation_from-words_of (says.NotActive r) h = ap says.NotActive (number-decimal r h)
 observation_from-words_of (says.Ended t) h = ap says.Ended (txn-txn_text t h)
+observation_from-words_of says.True h = refl
+observation_from-words_of says.False h = refl
+observation_from-words_of (says.Value value) h = refl
+observation_from-words_of says.Missing h = refl
+observation_from-words_of says.Absent h = refl
+observation_from-words_of says.WrongKind h = refl
 
 AllLack-words_of : (o : Observation) → IsPrintable o → AllLack 32 (words_of o)
 AllLack-words_of (says.Up r) h = (search rules, (Lacks-decimal 32 r (lit< tt) h, tt))
@@ -174,6 +189,12 @@ AllLack-words_of (says.Refused part) h = (search rules, (Lacks-decimal 32 part (
 AllLack-words_of (says.Down r) h = (search rules, (Lacks-decimal 32 r (lit< tt) h, tt))
 AllLack-words_of (says.NotActive r) h = (search rules, (Lacks-decimal 32 r (lit< tt) h, tt))
 AllLack-words_of (says.Ended t) h = (search rules, (Lacks-txn_text t h, tt))
+AllLack-words_of says.True h = (search rules, tt)
+AllLack-words_of says.False h = (search rules, tt)
+AllLack-words_of (says.Value value) h = (search rules, ((Lacks-plain value h).0, tt))
+AllLack-words_of says.Missing h = (search rules, tt)
+AllLack-words_of says.Absent h = (search rules, tt)
+AllLack-words_of says.WrongKind h = (search rules, tt)
 
 -- ---- lines
 

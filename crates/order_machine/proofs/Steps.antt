@@ -1,6 +1,6 @@
 -- Each line of an event keeps what machines keep, and what holds at its place among the lines.
-use Rattle.std.proofs.Common.{◌≡◌, ◌∙◌, ℕ, ◌≤◌, Bool, true, false, not, cond, List, [], ◌∷◌, Option, Some, None, refl, sym, ap, subst, le_of_lt, eqb}
-use Rattle.std.specs.Prelude.{find, is_some, is_none}
+use Rattle.std.proofs.Common.{◌≡◌, ◌∙◌, ℕ, ◌≤◌, Bool, true, false, not, ◌||◌, ◌&&◌, cond, List, [], ◌∷◌, Option, Some, None, refl, sym, ap, subst, le_of_lt, eqb}
+use Rattle.std.specs.Prelude.{find, is_some, is_none, option_map, option_and_then}
 use Rattle.std.specs.Option.{option_map_or}
 use Rattle.std.specs.Map.{lookup}
 use Rattle.std.proofs.lemmas.Bool.{false≢true, and_parts, cond_both, not-true, eqb-true}
@@ -8,14 +8,16 @@ use Rattle.std.proofs.lemmas.Option.{none-some, same_Some}
 use Rattle.rc_base.specs.declared.ids.TxnId.{TxnId}
 use Rattle.coll_model.specs.declared.op.Op.{Op}
 use Rattle.script_text.specs.declared.event.Event.{Event}
-use Rattle.script_text.specs.declared.event.Event.TheVariants.{Boot, Begin, Commit}
+use Rattle.script_text.specs.declared.event.Event.TheVariants.{Boot, Client}
+use Rattle.script_text.specs.declared.event.Call.{Call}
 use Rattle.order_machine.specs.declared.observation.Observation.{Observation}
 use Rattle.order_machine.specs.declared.observation.Observation.TheVariants as says
+use Rattle.order_machine.specs.declared.reply.Reply.{Reply}
 use Rattle.order_machine.specs.Ids.{is_epoch, is_txn}
 use Rattle.order_machine.specs.Order.{length_of}
 use Rattle.order_machine.specs.Machine.{Machine, Txn, Appointment, never_opened, replica, put_replica, put_role, role_of, is_active}
-use Rattle.order_machine.specs.Answers.{answer, answered_at, next_txn}
-use Rattle.order_machine.specs.Rows.{Position, event_primary, first_epoch, is_named, May, MayAnswer, after, answering, new_role, with_first_role, showing, activated, up_again}
+use Rattle.order_machine.specs.Answers.{plain, answer, begun_by, noted, next_txn, txn_named}
+use Rattle.order_machine.specs.Rows.{Position, event_primary, first_epoch, is_boot, May, MayAnswer, after, MayBeDone, acknowledging, is_asked_commit, answering, answered_by, new_role, with_first_role, showing, activated, up_again}
 use Rattle.order_machine.proofs.Lists.{at_written, some_of, none_of, passed}
 use Rattle.order_machine.proofs.Kept.{Kept, OfRole, order_is, kept_put, kept_without_role, kept_showing, kept_ordering, kept_acknowledging, kept_noted, kept_begun, kept_activated, noting_found}
 
@@ -28,16 +30,43 @@ pub record IsBooting (txns : List (TxnId × Txn)) (appointments : List Appointme
   pub appointed : find (λ a. is_epoch first_epoch a.epoch) appointments ≡ Some appointment
   pub first : appointment.primary ≡ primary
 
--- A replica that is being opened has no role; and until a begin is answered, its answer is that of the machine.
+-- The answer to a call: to a begin it is that of the machine, and no call of a transaction logs anything once its commit
+-- was asked.
+pub record IsCalling (m : Machine) (r : ℕ) (call : Call) (client : Option Reply) : Type 0 where
+  pub begins : txn_named call ≡ None → client ≡ answer m r call
+  pub logs : (t : TxnId) (x : Txn) → txn_named call ≡ Some t → lookup (is_txn t) m.txns ≡ Some x → x.asked ≡ true → option_and_then (λ reply. reply.op) client ≡ None
+
+-- A replica that is being opened has no role; and until a call is answered, its answer is that of the machine.
 pub record KeptAt (p : Position) : Type 0 where
   pub machine : Kept p.machine
   pub opening : (r : ℕ) → p.opening ≡ Some r → (replica p.machine r).role ≡ None
   pub booting : (primary : ℕ) (members : List ℕ) → p.event ≡ Boot primary members → IsBooting p.machine.txns p.machine.appointments primary
-  pub beginning : (r : ℕ) → p.event ≡ Begin r → p.answered ≡ false → p.client ≡ answer p.machine r (Begin r)
+  pub calling : (r : ℕ) (call : Call) → p.event ≡ Client r call → p.answered ≡ false → IsCalling p.machine r call p.client
 
--- an event that doesn't have the line is another
-pub not_named : {P : Type 0} (o : Observation) (event other : Event) → is_named event o ≡ true → event ≡ other → is_named other o ≡ false → P
-not_named o event other named e unnamed = absurd (false≢true (sym unnamed ∙ (ap (λ x. is_named x o) (sym e) ∙ named)))
+-- a begin is answered at once
+answer_is : (m : Machine) (r : ℕ) (call : Call) → txn_named call ≡ None → answer m r call ≡ cond (not (replica m r).up) (Some (plain (says.Down r))) (cond (not (is_active m r)) (Some (plain (says.NotActive r))) (Some (plain (says.Txn (next_txn (role_of m r))))))
+answer_is m r call none = rw none refl
+
+some_answer : (up active : Bool) (a b c : Reply) → cond (not up) (Some a) (cond (not active) (Some b) (Some c)) ≡ None → ⊥
+some_answer false active a b c h = cc
+some_answer true false a b c h = cc
+some_answer true true a b c h = cc
+
+-- a call without an answer of its own goes on as it began
+calling_on : (m n : Machine) (r : ℕ) (call : Call) (client : Option Reply) → is_none client ≡ true → IsCalling m r call client → IsCalling n r call client
+calling_on m n r call client none k =
+    let is : client ≡ None = none_of client (not-true (is_some client) none) in
+    record {
+      begins = λ e. absurd (some_answer (replica m r).up (is_active m r) (plain (says.Down r)) (plain (says.NotActive r)) (plain (says.Txn (next_txn (role_of m r)))) (sym (answer_is m r call e) ∙ (sym (k.begins e) ∙ is)));
+      logs = λ t x e known asked. ap (option_and_then (λ reply. reply.op)) is;
+    }
+
+-- a call is no boot, and a boot is no call
+no_boot : {P : Type 0} (event : Event) (r : ℕ) (members : List ℕ) → not (is_boot event) ≡ true → event ≡ Boot r members → P
+no_boot event r members other e = absurd (false≢true (sym (ap (λ x. not (is_boot x)) e) ∙ other))
+
+no_call : {P : Type 0} (event : Event) (r : ℕ) (call : Call) → is_boot event ≡ true → event ≡ Client r call → P
+no_call event r call boot e = absurd (false≢true (sym (ap is_boot e) ∙ boot))
 
 pub not_open : {P : Type 0} (o : Option ℕ) (r : ℕ) → is_none o ≡ true → o ≡ Some r → P
 not_open o r none e = absurd (none-some r (sym (none_of o (not-true (is_some o) none)) ∙ e))
@@ -51,7 +80,7 @@ kept_up p r k h =
       machine = kept_without_role p.machine k.machine r new (k.machine.replicas r).loss (k.machine.replicas r).within refl;
       opening = λ q e. subst (λ x. (replica (put_replica p.machine r new) x).role ≡ None) (same_Some r q e) (at_written (λ x. x.role ≡ None) p.machine.replicas r new never_opened refl refl);
       booting = k.booting;
-      beginning = λ q e _. not_named (says.Up r) p.event (Begin q) h.named e refl;
+      calling = λ q call e _. no_call p.event q call h.named e;
     }
 
 -- ---- order
@@ -60,8 +89,8 @@ kept_order : (p : Position) (t : TxnId) (ops : List Op) → KeptAt p → May p (
 kept_order p t ops k h = record {
   machine = kept_ordering p.machine k.machine (event_primary p.event) t ops h.row.txn h.row.known h.row.new h.row.asked h.row.whole;
   opening = λ q e. not_open p.opening q h.next e;
-  booting = λ q members e. not_named (says.Order t ops) p.event (Boot q members) h.named e refl;
-  beginning = λ q e _. not_named (says.Order t ops) p.event (Begin q) h.named e refl;
+  booting = λ q members e. no_boot p.event q members (and_parts (not (is_boot p.event)) (is_none p.client) h.named).0 e;
+  calling = λ q call e unanswered. calling_on p.machine (after p (says.Order t ops)).machine q call p.client (and_parts (not (is_boot p.event)) (is_none p.client) h.named).1 (k.calling q call e unanswered);
 }
 
 -- ---- view
@@ -83,14 +112,12 @@ kept_new_role m k r booting = kept_put m k r (record (replica m r) { role = Some
 kept_first_role : (m : Machine) (k : Kept m) (event : Event) (mounts : List ℕ) → ((r : ℕ) (members : List ℕ) → event ≡ Boot r members → IsBooting m.txns m.appointments r) → Kept (with_first_role m event mounts)
 kept_first_role m k (Boot r members) [] booting = cond_both (replica m r).up (put_role m r (Some (new_role first_epoch))) m Kept (λ _. kept_new_role m k r (booting r members refl)) (λ _. k)
 kept_first_role m k (Boot r members) (q ∷ mounts) booting = k
-kept_first_role m k (Begin r) mounts booting = k
-kept_first_role m k (Commit r t) mounts booting = k
+kept_first_role m k (Client r call) mounts booting = k
 
 booting_first_role : (m : Machine) (event : Event) (mounts : List ℕ) (r : ℕ) → IsBooting m.txns m.appointments r → IsBooting (with_first_role m event mounts).txns (with_first_role m event mounts).appointments r
 booting_first_role m (Boot p members) [] r b = cond_both (replica m p).up (put_role m p (Some (new_role first_epoch))) m (λ x. IsBooting x.txns x.appointments r) (λ _. b) (λ _. b)
 booting_first_role m (Boot p members) (q ∷ mounts) r b = b
-booting_first_role m (Begin p) mounts r b = b
-booting_first_role m (Commit p t) mounts r b = b
+booting_first_role m (Client p call) mounts r b = b
 
 -- behind `up`
 kept_opened_view : (p : Position) (r n rank : ℕ) → KeptAt p → May p (says.View r n) → (q : ℕ) → p.opening ≡ Some q → KeptAt (record p { machine = with_first_role (showing p.machine r n) p.event p.mounts; opening = None; rank = rank })
@@ -103,7 +130,7 @@ kept_opened_view p r n rank k h q is =
       machine = kept_first_role (showing m r n) shown p.event p.mounts k.booting;
       opening = λ x e. absurd (none-some x e);
       booting = λ x members e. booting_first_role (showing m r n) p.event p.mounts x (k.booting x members e);
-      beginning = λ x e _. not_named (says.View r n) p.event (Begin x) h.named e refl;
+      calling = λ x call e unanswered. calling_on m (with_first_role (showing m r n) p.event p.mounts) x call p.client h.named (k.calling x call e unanswered);
     }
 
 -- a primary's
@@ -112,7 +139,7 @@ kept_later_view p r n rank k h none = record {
   machine = kept_showing p.machine k.machine r n (le_of_lt (h.row.more none)) (subst (λ o. n ≤ length_of o) (order_is p.machine k.machine r) h.row.within);
   opening = λ q e. absurd (none-some q (sym none ∙ e));
   booting = k.booting;
-  beginning = λ q e _. not_named (says.View r n) p.event (Begin q) h.named e refl;
+  calling = λ q call e unanswered. calling_on p.machine (showing p.machine r n) q call p.client h.named (k.calling q call e unanswered);
 }
 
 kept_view : (p : Position) (r n : ℕ) → KeptAt p → May p (says.View r n) → KeptAt (after p (says.View r n))
@@ -138,7 +165,7 @@ kept_active p r k h =
         appointed = a.1;
         first = a.2 ∙ b.first;
       };
-      beginning = λ q e _. not_named (says.Active r) p.event (Begin q) h.named e refl;
+      calling = λ q call e unanswered. calling_on m (activated m r role) q call p.client h.named (k.calling q call e unanswered);
     } in
     subst (λ o. KeptAt (record p { machine = option_map_or (activated m r) o m; rank = 4 })) (sym h.row.has) active
 
@@ -148,47 +175,77 @@ kept_committed : (p : Position) (t : TxnId) → KeptAt p → May p (says.Committ
 kept_committed p t k h = record {
   machine = kept_acknowledging p.machine k.machine (event_primary p.event) t h.row.shown h.row.elsewhere;
   opening = λ q e. not_open p.opening q (and_parts (is_none p.opening) (not p.growing) h.next).0 e;
-  booting = λ q members e. not_named (says.Committed t) p.event (Boot q members) h.named e refl;
-  beginning = λ q e _. not_named (says.Committed t) p.event (Begin q) h.named e refl;
+  booting = λ q members e. no_boot p.event q members (and_parts (not (is_boot p.event)) (is_none p.client) h.named).0 e;
+  calling = λ q call e answered. calling_on p.machine (acknowledging p.machine t) q call p.client (and_parts (not (is_boot p.event)) (is_none p.client) h.named).1 (k.calling q call e (unanswered p.answered (is_asked_commit p.event t) answered));
 }
+  where
+    unanswered : (a b : Bool) → (a || b) ≡ false → a ≡ false
+    unanswered true b h = absurd (false≢true (sym h))
+    unanswered false b h = refl
 
--- ---- ok
-
-kept_done : (p : Position) → KeptAt p → May p says.Done → KeptAt (after p says.Done)
-kept_done p k h = record {
-  machine = k.machine;
-  opening = k.opening;
-  booting = k.booting;
-  beginning = λ q e _. not_named says.Done p.event (Begin q) h.named e refl;
-}
-
--- ---- answers of calls
+-- ---- answers
 
 -- a begin that is answered by a transaction is served, by an active primary's next one
-served_begin : (up active : Bool) (r : ℕ) (next t : TxnId) → cond (not up) (Some (says.Down r)) (cond (not active) (Some (says.NotActive r)) (Some (says.Txn next))) ≡ Some (says.Txn t) → (active ≡ true) × (next ≡ t)
+served_begin : (up active : Bool) (r : ℕ) (next t : TxnId) → option_map (λ reply. reply.answer) (cond (not up) (Some (plain (says.Down r))) (cond (not active) (Some (plain (says.NotActive r))) (Some (plain (says.Txn next))))) ≡ Some (says.Txn t) → (active ≡ true) × (next ≡ t)
 served_begin false active r next t h = absurd (cc)
 served_begin true false r next t h = absurd (cc)
 served_begin true true r next t h = (refl, cc)
 
-kept_begin : (m : Machine) (k : Kept m) (r : ℕ) (t : TxnId) → answer m r (Begin r) ≡ Some (says.Txn t) → Kept (answered_at m r (Begin r) (says.Txn t))
-kept_begin m k r t h =
-    let served = served_begin (replica m r).up (is_active m r) r (next_txn (role_of m r)) t h in
+kept_begin : (m : Machine) (k : Kept m) (r : ℕ) (call : Call) (o : Observation) → txn_named call ≡ None → option_map (λ reply. reply.answer) (answer m r call) ≡ Some o → Kept (begun_by m r o)
+kept_begin m k r call (says.Txn t) none h =
+    let served = served_begin (replica m r).up (is_active m r) r (next_txn (role_of m r)) t (ap (option_map (λ reply. reply.answer)) (sym (answer_is m r call none)) ∙ h) in
     let role = passed (λ role. role.active) (role_of m r) served.0 in
-    subst (λ u. Kept (answered_at m r (Begin r) (says.Txn u))) (ap next_txn (sym role.1) ∙ served.1) (kept_begun m k r role.0 role.1)
+    subst (λ u. Kept (begun_by m r (says.Txn u))) (ap next_txn (sym role.1) ∙ served.1) (kept_begun m k r role.0 role.1)
+kept_begin m k r call (says.Up q) none h = k
+kept_begin m k r call (says.Order t ops) none h = k
+kept_begin m k r call (says.View q n) none h = k
+kept_begin m k r call (says.Active q) none h = k
+kept_begin m k r call (says.Committed t) none h = k
+kept_begin m k r call says.Done none h = k
+kept_begin m k r call (says.Refused part) none h = k
+kept_begin m k r call (says.Down q) none h = k
+kept_begin m k r call (says.NotActive q) none h = k
+kept_begin m k r call (says.Ended t) none h = k
+kept_begin m k r call says.True none h = k
+kept_begin m k r call says.False none h = k
+kept_begin m k r call (says.Value value) none h = k
+kept_begin m k r call says.Missing none h = k
+kept_begin m k r call says.Absent none h = k
+kept_begin m k r call says.WrongKind none h = k
 
-kept_answered : (m : Machine) (k : Kept m) (event : Event) (o : Observation) → ((r : ℕ) → event ≡ Begin r → answer m r (Begin r) ≡ Some o) → Kept (answered_at m (event_primary event) event o)
-kept_answered m k (Boot p members) o begin = k
-kept_answered m k (Commit r t) o begin = kept_noted m k t (record { call = Commit r t; answer = o; op = None }) refl
-kept_answered m k (Begin r) (says.Txn t) begin = kept_begin m k r t (begin r refl)
-kept_answered m k (Begin r) _ begin = k
+kept_answered : (m : Machine) (k : Kept m) (event : Event) (client : Option Reply) (o : Observation) → ((r : ℕ) (call : Call) → event ≡ Client r call → IsCalling m r call client) → (is_boot event ≡ false → option_map (λ reply. reply.answer) client ≡ Some o) → Kept (answered_by m event (record { answer = o; op = option_and_then (λ reply. reply.op) client }))
+kept_answered m k (Boot p members) client o calling says = k
+kept_answered m k (Client r call) client o calling says = by_name (txn_named call) refl
+  where
+    by_name : (named : Option TxnId) → txn_named call ≡ named → Kept (option_map_or (λ t. noted m t (record { call = call; answer = o; op = option_and_then (λ reply. reply.op) client })) named (begun_by m r o))
+    by_name None e = kept_begin m k r call o e (ap (option_map (λ reply. reply.answer)) (sym ((calling r call refl).begins e)) ∙ says refl)
+    by_name (Some t) e = kept_noted m k t (record { call = call; answer = o; op = option_and_then (λ reply. reply.op) client }) (λ x known asked. (calling r call refl).logs t x e known asked)
 
-kept_answering : (p : Position) (o : Observation) (rank : ℕ) → KeptAt p → is_named p.event o ≡ true → is_none p.opening ≡ true → MayAnswer p o → ((r : ℕ) (members : List ℕ) → is_named (Boot r members) o ≡ false) → KeptAt (record (answering p o) { rank = rank })
-kept_answering p o rank k named next h other = record {
-  machine = kept_answered p.machine k.machine p.event o (λ r e. sym (k.beginning r e h.1) ∙ h.0);
+booting_answered : (m : Machine) (event : Event) (reply : Reply) (primary : ℕ) (members : List ℕ) → event ≡ Boot primary members → IsBooting m.txns m.appointments primary → IsBooting (answered_by m event reply).txns (answered_by m event reply).appointments primary
+booting_answered m (Boot p others) reply primary members e b = b
+booting_answered m (Client r call) reply primary members e b = absurd (cc)
+
+kept_answering : (p : Position) (o : Observation) (rank : ℕ) → KeptAt p → is_none p.opening ≡ true → p.answered ≡ false → (is_boot p.event ≡ false → option_map (λ reply. reply.answer) p.client ≡ Some o) → KeptAt (record (answering p o) { rank = rank })
+kept_answering p o rank k next unanswered is = record {
+  machine = kept_answered p.machine k.machine p.event p.client o (λ r call e. k.calling r call e unanswered) is;
   opening = λ q e. not_open p.opening q next e;
-  booting = λ q members e. not_named o p.event (Boot q members) named e (other q members);
-  beginning = λ q e unanswered. absurd (false≢true (sym unanswered));
+  booting = λ q members e. booting_answered p.machine p.event (record { answer = o; op = option_and_then (λ reply. reply.op) p.client }) q members e (k.booting q members e);
+  calling = λ q call e still. absurd (false≢true (sym still));
 }
+
+-- an answer to a call
+kept_reply : (p : Position) (o : Observation) (rank : ℕ) → KeptAt p → (is_none p.opening && not p.growing) ≡ true → MayAnswer p o → KeptAt (record (answering p o) { rank = rank })
+kept_reply p o rank k next h = kept_answering p o rank k (and_parts (is_none p.opening) (not p.growing) next).0 h.1 (λ _. h.0)
+
+-- `ok`, to a call or a boot
+kept_done : (p : Position) → KeptAt p → May p says.Done → KeptAt (after p says.Done)
+kept_done p k h =
+    let done = by_event p.event h.row in
+    kept_answering p says.Done 6 k (and_parts (is_none p.opening) (not p.growing) h.next).0 done.0 done.1
+  where
+    by_event : (event : Event) → MayBeDone p event → (p.answered ≡ false) × (is_boot event ≡ false → option_map (λ reply. reply.answer) p.client ≡ Some says.Done)
+    by_event (Boot r members) done = (done.2, λ e. absurd (false≢true (sym e)))
+    by_event (Client r call) done = (done.1, λ _. done.0)
 
 -- ---- each line
 
@@ -200,7 +257,13 @@ kept_line p (says.Active r) k h = kept_active p r k h
 kept_line p (says.Committed t) k h = kept_committed p t k h
 kept_line p says.Done k h = kept_done p k h
 kept_line p (says.Refused part) k h = absurd h.row
-kept_line p (says.Txn t) k h = kept_answering p (says.Txn t) 6 k h.named (and_parts (is_none p.opening) (not p.growing) h.next).0 h.row (λ r members. refl)
-kept_line p (says.Down r) k h = kept_answering p (says.Down r) 6 k h.named (and_parts (is_none p.opening) (not p.growing) h.next).0 h.row (λ r members. refl)
-kept_line p (says.NotActive r) k h = kept_answering p (says.NotActive r) 6 k h.named (and_parts (is_none p.opening) (not p.growing) h.next).0 h.row (λ r members. refl)
-kept_line p (says.Ended t) k h = kept_answering p (says.Ended t) 6 k h.named (and_parts (is_none p.opening) (not p.growing) h.next).0 h.row (λ r members. refl)
+kept_line p (says.Txn t) k h = kept_reply p (says.Txn t) 6 k h.next h.row
+kept_line p (says.Down r) k h = kept_reply p (says.Down r) 6 k h.next h.row
+kept_line p (says.NotActive r) k h = kept_reply p (says.NotActive r) 6 k h.next h.row
+kept_line p (says.Ended t) k h = kept_reply p (says.Ended t) 6 k h.next h.row
+kept_line p says.True k h = kept_reply p says.True 6 k h.next h.row
+kept_line p says.False k h = kept_reply p says.False 6 k h.next h.row
+kept_line p (says.Value value) k h = kept_reply p (says.Value value) 6 k h.next h.row
+kept_line p says.Missing k h = kept_reply p says.Missing 6 k h.next h.row
+kept_line p says.Absent k h = kept_reply p says.Absent 6 k h.next h.row
+kept_line p says.WrongKind k h = kept_reply p says.WrongKind 6 k h.next h.row

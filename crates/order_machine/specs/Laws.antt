@@ -3,7 +3,8 @@ use Rattle.std.specs.Prelude.{◌≡◌, ℕ, ◌≤◌, true, List, [], ◌∷�
 use Rattle.std.specs.List.{IsDistinct}
 use Rattle.rc_base.specs.declared.ids.TxnId.{TxnId}
 use Rattle.script_text.specs.declared.event.Event.{Event}
-use Rattle.script_text.specs.declared.event.Event.TheVariants.{Boot, Begin, Commit}
+use Rattle.script_text.specs.declared.event.Event.TheVariants.{Boot, Client}
+use Rattle.script_text.specs.declared.event.Call.TheVariants.{Begin, Commit}
 use Rattle.order_machine.specs.declared.observation.Observation.{Observation}
 use Rattle.order_machine.specs.declared.observation.Observation.TheVariants as says
 use Rattle.order_machine.specs.Ids.{is_txn, epoch_le}
@@ -85,8 +86,8 @@ first_txn = record { epoch = first_epoch; n = 1 }
 abbrev pub one_commit : List Step
 one_commit =
     record { number = 1; event = Boot 0 (0 ∷ []); lines = says.Up 0 ∷ says.View 0 0 ∷ says.Active 0 ∷ says.Done ∷ [] }
-    ∷ record { number = 2; event = Begin 0; lines = says.Txn first_txn ∷ [] }
-    ∷ record { number = 3; event = Commit 0 first_txn; lines = says.Order first_txn [] ∷ says.View 0 1 ∷ says.Committed first_txn ∷ [] }
+    ∷ record { number = 2; event = Client 0 Begin; lines = says.Txn first_txn ∷ [] }
+    ∷ record { number = 3; event = Client 0 (Commit first_txn); lines = says.Order first_txn [] ∷ says.View 0 1 ∷ says.Committed first_txn ∷ [] }
     ∷ []
 
 -- such a run is whole, and so the laws are about some runs

@@ -1,18 +1,12 @@
 -- How observations print. Each has one text: its words, with one space between each two, behind its event's number.
 use Rattle.std.specs.Prelude.{◌≡◌, ◌≢◌, ℕ, ◌<◌, ◌^◌, All, List, [], ◌∷◌, ◌++◌, map, flat_map, codes, decimal}
 use Rattle.std.specs.List.{join_with_byte}
-use Rattle.coll_model.specs.declared.op.Kind.{Kind}
-use Rattle.coll_model.specs.declared.op.Kind.TheVariants as kinds
 use Rattle.coll_model.specs.declared.op.Op.{Op}
 use Rattle.coll_model.specs.declared.op.Op.TheVariants.{Make, Unmake, Put, Del, Push, Pop}
-use Rattle.script_text.specs.Sentence.{txn_text, IsTxn}
+use Rattle.script_text.specs.Sentence.{txn_text, kind_text, IsTxn}
 use Rattle.order_machine.specs.declared.observation.Observation.{Observation}
 use Rattle.order_machine.specs.declared.observation.Observation.TheVariants as says
 use Rattle.order_machine.specs.Legal.{Step}
-
-abbrev pub kind_text : Kind → List ℕ
-kind_text kinds.Dict = codes "dict"
-kind_text kinds.Queue = codes "queue"
 
 -- the parts of an operation's word, which colons join
 abbrev pub op_parts : Op → List (List ℕ)
@@ -40,6 +34,12 @@ words_of (says.Refused part) = codes "refused" ∷ decimal part ∷ []
 words_of (says.Down r) = codes "down" ∷ decimal r ∷ []
 words_of (says.NotActive r) = codes "notactive" ∷ decimal r ∷ []
 words_of (says.Ended t) = codes "ended" ∷ txn_text t ∷ []
+words_of says.True = codes "true" ∷ []
+words_of says.False = codes "false" ∷ []
+words_of (says.Value value) = codes "value" ∷ value ∷ []
+words_of says.Missing = codes "none" ∷ []
+words_of says.Absent = codes "absent" ∷ []
+words_of says.WrongKind = codes "wrongkind" ∷ []
 
 -- the text of a line without its LF; 32 is a space
 abbrev pub line_text : ℕ → Observation → List ℕ
@@ -54,7 +54,7 @@ transcript_of steps = flat_map (λ s. lines_text s.number s.lines) steps
 
 -- ---- which lines are read back
 
--- a word that may stand in an operation: it holds no space, no colon and no LF
+-- a word that may stand in an operation or an answer: it holds no space, no colon and no LF
 abbrev pub IsPlain : List ℕ → Type 0
 IsPlain word = All (λ letter. (letter ≢ 32) × (letter ≢ 58) × (letter ≢ 10)) word
 
@@ -79,6 +79,12 @@ IsPrintable (says.Refused part) = part < 2 ^ 64
 IsPrintable (says.Down r) = r < 2 ^ 64
 IsPrintable (says.NotActive r) = r < 2 ^ 64
 IsPrintable (says.Ended t) = IsTxn t
+IsPrintable says.True = Unit {0}
+IsPrintable says.False = Unit {0}
+IsPrintable (says.Value value) = IsPlain value
+IsPrintable says.Missing = Unit {0}
+IsPrintable says.Absent = Unit {0}
+IsPrintable says.WrongKind = Unit {0}
 
 -- a line that was printed is that of one number and one observation
 abbrev pub LinesReadOnce : Type 0

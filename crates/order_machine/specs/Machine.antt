@@ -6,7 +6,7 @@ use Rattle.std.specs.Map.{lookup}
 use Rattle.rc_base.specs.declared.ids.Epoch.{Epoch}
 use Rattle.rc_base.specs.declared.ids.TxnId.{TxnId}
 use Rattle.coll_model.specs.declared.op.Op.{Op}
-use Rattle.script_text.specs.declared.event.Event.{Event}
+use Rattle.script_text.specs.declared.event.Call.{Call}
 use Rattle.order_machine.specs.declared.observation.Observation.{Observation}
 use Rattle.order_machine.specs.Ids.{is_epoch, is_txn}
 use Rattle.order_machine.specs.Order.{Order, empty_order, holds, first_of}
@@ -36,7 +36,7 @@ pub record Replica : Type 0 where
 
 -- a client call with its answer, and the operation that it logged
 pub record Noted : Type 0 where
-  pub call : Event
+  pub call : Call
   pub answer : Observation
   pub op : Option Op
 
@@ -146,6 +146,10 @@ is_acknowledged m t = list_any (is_txn t) m.acknowledged
 -- T goes on at r
 abbrev pub is_live : Machine → ℕ → TxnId → Bool
 is_live m r t = option_map_or (λ x. x.live && (x.home == r)) (txn_of m t) false
+
+-- the transaction that goes on at r under this name
+abbrev pub live_txn : Machine → ℕ → TxnId → Option Txn
+live_txn m r t = if is_live m r t then txn_of m t else None
 
 -- T's commit was asked at r, whose role in which it began lasts, and T isn't acknowledged
 abbrev pub is_pending : Machine → ℕ → TxnId → Bool

@@ -1,5 +1,5 @@
 -- The lines of an event, one after another: where each may come, and what it changes.
-use Rattle.std.specs.Prelude.{◌≡◌, ℕ, ◌+◌, ◌<◌, ◌≤◌, Bool, true, false, not, ◌&&◌, ◌||◌, ◌==◌, nat_le, if◌then◌else◌, List, [], ◌∷◌, ◌++◌, drop, filter, Option, Some, None, is_some, is_none}
+use Rattle.std.specs.Prelude.{◌≡◌, ℕ, ◌+◌, ◌<◌, ◌≤◌, Bool, true, false, not, ◌&&◌, ◌||◌, ◌==◌, nat_le, if◌then◌else◌, List, [], ◌∷◌, ◌++◌, drop, filter, Option, Some, None, is_some, is_none, option_and_then, option_map}
 use Rattle.std.specs.Option.{option_map_or}
 use Rattle.std.specs.List.{list_any}
 use Rattle.rc_base.specs.declared.ids.Epoch.{Epoch}
@@ -7,12 +7,15 @@ use Rattle.rc_base.specs.declared.ids.TxnId.{TxnId}
 use Rattle.rc_base.specs.Members.{first_twice}
 use Rattle.coll_model.specs.declared.op.Op.{Op}
 use Rattle.script_text.specs.declared.event.Event.{Event}
-use Rattle.script_text.specs.declared.event.Event.TheVariants.{Boot, Begin, Commit}
+use Rattle.script_text.specs.declared.event.Event.TheVariants.{Boot, Client}
+use Rattle.script_text.specs.declared.event.Call.{Call}
+use Rattle.script_text.specs.declared.event.Call.TheVariants.{Begin, Commit}
 use Rattle.order_machine.specs.declared.observation.Observation.{Observation}
 use Rattle.order_machine.specs.declared.observation.Observation.TheVariants as says
 use Rattle.order_machine.specs.Ids.{is_txn, is_epoch, epoch_le}
 use Rattle.order_machine.specs.Order.{length_of, state_at, holds, before}
 use Rattle.order_machine.specs.Machine.{Machine, Replica, Role, Txn, Appointment, replica, put_replica, order_of, put_order, txn_of, put_txn, role_of, put_role, is_booted, is_active, is_alone, is_shown, is_acknowledged, is_live, is_pending, ops_of}
+use Rattle.order_machine.specs.declared.reply.Reply.{Reply}
 use Rattle.order_machine.specs.Answers.{answer, answered_at, Replays}
 
 -- ---- what an event's lines are about
@@ -24,7 +27,7 @@ use Rattle.order_machine.specs.Answers.{answer, answered_at, Replays}
 pub record Position : Type 0 where
   pub machine : Machine
   pub event : Event
-  pub client : Option Observation
+  pub client : Option Reply
   pub answered : Bool
   pub rank : ℕ
   pub opening : Option ℕ
@@ -34,14 +37,16 @@ pub record Position : Type 0 where
 -- the replica whose clients an event may answer
 abbrev pub event_primary : Event → ℕ
 event_primary (Boot p members) = p
-event_primary (Begin r) = r
-event_primary (Commit r t) = r
+event_primary (Client r call) = r
 
 -- whether the replica takes a step in the event
 abbrev pub is_actor : Event → ℕ → Bool
 is_actor (Boot p members) r = list_any (λ member. member == r) members
-is_actor (Begin at) r = at == r
-is_actor (Commit at t) r = at == r
+is_actor (Client at call) r = at == r
+
+abbrev pub is_boot : Event → Bool
+is_boot (Boot p members) = true
+is_boot (Client r call) = false
 
 -- ---- refusals
 
@@ -53,8 +58,7 @@ are_members p members = list_any (λ member. member == p) members && is_none (fi
 abbrev pub refusal : Machine → Event → Option Observation
 refusal m (Boot p members) =
     if is_booted m then Some (says.Refused 9) else (if are_members p members then None else Some (says.Refused 2))
-refusal m (Begin r) = if is_booted m then None else Some (says.Refused 9)
-refusal m (Commit r t) = if is_booted m then None else Some (says.Refused 9)
+refusal m (Client r call) = if is_booted m then None else Some (says.Refused 9)
 
 -- ---- the beginning of an event
 
@@ -74,13 +78,18 @@ booting m p members = record m {
 }
 
 -- the machine as a live transaction's commit is asked
-abbrev pub asking : Machine → ℕ → TxnId → Machine
-asking m r t =
+abbrev pub asking_commit : Machine → ℕ → TxnId → Machine
+asking_commit m r t =
     if is_active m r && is_live m r t
     then option_map_or (λ x. put_txn m t (record x { live = false; asked = true })) (txn_of m t) m
     else m
 
-abbrev pub at_start : Machine → Event → Option Observation → List ℕ → Position
+-- the machine as a call is asked
+abbrev pub asking : Machine → ℕ → Call → Machine
+asking m r (Commit t) = asking_commit m r t
+asking m r _ = m
+
+abbrev pub at_start : Machine → Event → Option Reply → List ℕ → Position
 at_start m event client mounts = record {
   machine = m;
   event = event;
@@ -95,8 +104,7 @@ at_start m event client mounts = record {
 -- where an event that isn't refused begins
 abbrev pub opened : Machine → Event → Position
 opened m (Boot p members) = at_start (booting m p members) (Boot p members) None (in_order members)
-opened m (Begin r) = at_start m (Begin r) (answer m r (Begin r)) []
-opened m (Commit r t) = at_start (asking m r t) (Commit r t) (answer m r (Commit r t)) []
+opened m (Client r call) = at_start (asking m r call) (Client r call) (answer m r call) []
 
 -- ---- the order of lines
 
@@ -165,13 +173,12 @@ pub record MayCommit (p : Position) (t : TxnId) : Type 0 where
 
 -- the answer to a client call is the one that it had as the event began
 abbrev pub MayAnswer : Position → Observation → Type 0
-MayAnswer p o = (p.client ≡ Some o) × (p.answered ≡ false)
+MayAnswer p o = (option_map (λ reply. reply.answer) p.client ≡ Some o) × (p.answered ≡ false)
 
--- an event of the world was done: a boot, once its members are opened and its primary has its role
+-- `ok` answers a call that it is the answer of, and a boot, once its members are opened and its primary has its role
 abbrev pub MayBeDone : Position → Event → Type 0
 MayBeDone p (Boot primary members) = (p.mounts ≡ []) × (is_some (role_of p.machine primary) ≡ true) × (p.answered ≡ false)
-MayBeDone p (Begin r) = ⊥
-MayBeDone p (Commit r t) = ⊥
+MayBeDone p (Client r call) = MayAnswer p says.Done
 
 -- the row of each line
 abbrev pub Row : Position → Observation → Type 0
@@ -180,36 +187,23 @@ Row p (says.Order t ops) = MayOrder p t ops
 Row p (says.View r n) = MayShow p r n
 Row p (says.Active r) = MayBeActive p r
 Row p (says.Committed t) = MayCommit p t
-Row p (says.Txn t) = MayAnswer p (says.Txn t)
 Row p says.Done = MayBeDone p p.event
 Row p (says.Refused part) = ⊥
-Row p (says.Down r) = MayAnswer p (says.Down r)
-Row p (says.NotActive r) = MayAnswer p (says.NotActive r)
-Row p (says.Ended t) = MayAnswer p (says.Ended t)
+Row p o = MayAnswer p o
 
--- which lines an event has at all
-abbrev pub is_named : Event → Observation → Bool
-is_named (Boot p members) (says.Up r) = true
-is_named (Boot p members) (says.View r n) = true
-is_named (Boot p members) (says.Active r) = true
-is_named (Boot p members) says.Done = true
-is_named (Boot p members) _ = false
-is_named (Begin r) (says.Txn t) = true
-is_named (Begin r) (says.Down q) = true
-is_named (Begin r) (says.NotActive q) = true
-is_named (Begin r) _ = false
-is_named (Commit r t) (says.Order u ops) = true
-is_named (Commit r t) (says.View q n) = true
-is_named (Commit r t) (says.Active q) = true
-is_named (Commit r t) (says.Committed u) = true
-is_named (Commit r t) (says.Ended u) = true
-is_named (Commit r t) (says.Down q) = true
-is_named (Commit r t) (says.NotActive q) = true
-is_named (Commit r t) _ = false
+-- Which lines an event has at all. A call that is answered has its answer alone; the commit of a live transaction has no
+-- answer of its own.
+abbrev pub is_named : Position → Observation → Bool
+is_named p (says.Up r) = is_boot p.event
+is_named p (says.Order t ops) = not (is_boot p.event) && is_none p.client
+is_named p (says.View r n) = is_none p.client
+is_named p (says.Active r) = is_none p.client
+is_named p (says.Committed t) = not (is_boot p.event) && is_none p.client
+is_named p o = true
 
 -- the line may be the next one of the event
 pub record May (p : Position) (o : Observation) : Type 0 where
-  pub named : is_named p.event o ≡ true
+  pub named : is_named p o ≡ true
   pub in_rank : is_in_rank p.rank o ≡ true
   pub next : is_next p o ≡ true
   pub row : Row p o
@@ -226,8 +220,7 @@ new_role epoch = record { epoch = epoch; active = false; begins = 0; idle = [] }
 abbrev pub with_first_role : Machine → Event → List ℕ → Machine
 with_first_role m (Boot p members) [] = if (replica m p).up then put_role m p (Some (new_role first_epoch)) else m
 with_first_role m (Boot p members) (r ∷ rs) = m
-with_first_role m (Begin r) mounts = m
-with_first_role m (Commit r t) mounts = m
+with_first_role m (Client r call) mounts = m
 
 abbrev pub showing : Machine → ℕ → ℕ → Machine
 showing m r n = put_replica m r (record (replica m r) { show = n })
@@ -251,12 +244,19 @@ acknowledging m t = record m { acknowledged = t ∷ m.acknowledged }
 
 -- whether `committed T` answers the event
 abbrev pub is_asked_commit : Event → TxnId → Bool
-is_asked_commit (Boot p members) t = false
-is_asked_commit (Begin r) t = false
-is_asked_commit (Commit r asked) t = is_txn asked t
+is_asked_commit (Client r (Commit asked)) t = is_txn asked t
+is_asked_commit _ t = false
+
+-- the answer to the event's call is noted, with the operation that it logged
+abbrev pub answered_by : Machine → Event → Reply → Machine
+answered_by m (Boot p members) reply = m
+answered_by m (Client r call) reply = answered_at m r call reply
 
 abbrev pub answering : Position → Observation → Position
-answering p o = record p { machine = answered_at p.machine (event_primary p.event) p.event o; answered = true }
+answering p o = record p {
+  machine = answered_by p.machine p.event (record { answer = o; op = option_and_then (λ reply. reply.op) p.client });
+  answered = true;
+}
 
 abbrev pub changed : Position → Observation → Position
 changed p (says.Up r) = record p { machine = put_replica p.machine r (up_again (replica p.machine r)); opening = Some r; mounts = drop 1 p.mounts }
@@ -267,12 +267,7 @@ changed p (says.View r n) =
     else record p { machine = showing p.machine r n; growing = false }
 changed p (says.Active r) = record p { machine = now_active p.machine r }
 changed p (says.Committed t) = record p { machine = acknowledging p.machine t; answered = p.answered || is_asked_commit p.event t }
-changed p says.Done = record p { answered = true }
-changed p (says.Refused part) = record p { answered = true }
-changed p (says.Txn t) = answering p (says.Txn t)
-changed p (says.Down r) = answering p (says.Down r)
-changed p (says.NotActive r) = answering p (says.NotActive r)
-changed p (says.Ended t) = answering p (says.Ended t)
+changed p o = answering p o
 
 -- the rank behind a line: a mount is a step of its own
 abbrev pub next_rank : Position → Observation → ℕ
@@ -301,6 +296,5 @@ pub record HoldsBehind (m : Machine) : Type 0 where
 
 -- A second transaction beside a live one waits for locks.
 abbrev pub IsUnbuilt : Machine → Event → Type 0
-IsUnbuilt m (Boot p members) = ⊥
-IsUnbuilt m (Begin r) = (refusal m (Begin r) ≡ None) × (is_active m r ≡ true) × ((t : TxnId) × (is_live m r t ≡ true))
-IsUnbuilt m (Commit r t) = ⊥
+IsUnbuilt m (Client r Begin) = (refusal m (Client r Begin) ≡ None) × (is_active m r ≡ true) × ((t : TxnId) × (is_live m r t ≡ true))
+IsUnbuilt m _ = ⊥

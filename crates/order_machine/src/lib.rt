@@ -6,6 +6,7 @@ mod laws;
 mod observation;
 mod observations;
 mod printing;
+mod reply;
 
 pub use laws::{
     acknowledged_are_ordered, asked_are_ordered, beginnings_are_shown, lines_read_once,
@@ -15,6 +16,7 @@ pub use laws::{
 pub use observation::Observation;
 pub use observations::Observations;
 pub use printing::print;
+pub use reply::Reply;
 
 #[cfg(test)]
 mod tests;

@@ -1,5 +1,5 @@
 use coll_model::Ops;
-use rc_base::{ReplicaId, TxnId};
+use rc_base::{Bytes, ReplicaId, TxnId};
 
 /// A line of the transcript behind its event's number. There is one variant for each form of line that is built so
 /// far, with the line's words as its fields, in order.
@@ -27,4 +27,16 @@ pub enum Observation {
     NotActive(ReplicaId),
     /// `ended T`: T isn't live at the replica.
     Ended(TxnId),
+    /// `true`: the call did what it was asked.
+    True,
+    /// `false`: it didn't, since that was so already.
+    False,
+    /// `value word`: what the call asked for.
+    Value(Bytes),
+    /// `none`: there is no such value.
+    Missing,
+    /// `absent`: the transaction sees no collection of this name.
+    Absent,
+    /// `wrongkind`: the collection is of another kind.
+    WrongKind,
 }

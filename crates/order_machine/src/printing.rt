@@ -1,7 +1,7 @@
 ghost use Rattle.std.specs.Prelude.{◌≡◌, ◌++◌, ◌∷◌, [], OnOk, OnErr, codes, decimal, flat_map};
 ghost use Rattle.std.specs.Io.{StartsWith};
-ghost use Rattle.script_text.specs.Sentence.{txn_text};
-ghost use Rattle.order_machine.specs.Lines.{line_text, words_of, op_text, kind_text};
+ghost use Rattle.script_text.specs.Sentence.{txn_text, kind_text};
+ghost use Rattle.order_machine.specs.Lines.{line_text, words_of, op_text};
 
 use crate::observation::Observation;
 use coll_model::{Kind, Op};
@@ -68,6 +68,15 @@ fn write_words(observation: &Observation, out: &mut Vec<u8>) -> Result<(), NoMem
         Observation::Down(r) => write_with_replica(b"down", *r, out),
         Observation::NotActive(r) => write_with_replica(b"notactive", *r, out),
         Observation::Ended(t) => write_with_txn(b"ended", t, out),
+        Observation::True => write_word(SPACE, b"true", out),
+        Observation::False => write_word(SPACE, b"false", out),
+        Observation::Value(value) => {
+            write_word(SPACE, b"value", out)?;
+            write_word(SPACE, value.as_slice(), out)
+        }
+        Observation::Missing => write_word(SPACE, b"none", out),
+        Observation::Absent => write_word(SPACE, b"absent", out),
+        Observation::WrongKind => write_word(SPACE, b"wrongkind", out),
     }
 }
 

@@ -1,7 +1,8 @@
-pub mod Txns
-pub mod Quiet
-pub mod Served
+pub mod Answer
 pub mod Begin
-pub mod Ended
 pub mod Commit
+pub mod Ended
 pub mod KeptLemmas
+pub mod Quiet
+pub mod Replied
+pub mod Served

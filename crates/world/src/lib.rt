@@ -2,7 +2,11 @@
 #![tactic(auto)]
 
 mod error;
+mod replies;
 mod world;
 
 pub use error::WorldError;
 pub use world::World;
+
+#[cfg(test)]
+mod tests;
