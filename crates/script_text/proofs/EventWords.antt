@@ -98,11 +98,7 @@ AllLack-words (Boot p members) is = (search rules, (Lacks-zero p is.0, (one_memb
 AllLack-words (Client r call) is = AllLack-call r call is.0 is.1
 
 some_words_at : (r : ℕ) (call : Call) → 0 < length (words_at r call)
-some_words_at r calls.Begin = lit< tt
-some_words_at r (calls.Make t name kind) = lit< tt
-some_words_at r (calls.Get t name key) = lit< tt
-some_words_at r (calls.Set t name key value) = lit< tt
-some_words_at r (calls.Commit t) = lit< tt
+some_words_at r call = grind arith
 
 some_words : (event : Event) → 0 < length (words_of event)
 some_words (Boot p members) = lit< tt
@@ -126,20 +122,9 @@ line_from_words line words event cut is = record {
 pub no_line_from_words : (line : List ℕ) (words : List (List ℕ)) → words ≡ slice_split (λ b. eqb b 32) line → ((event : Event) → IsSentence words event → ⊥) → (event : Event) → Spells line event → ⊥
 no_line_from_words line words cut none event spells = none event (subst (λ ws. IsSentence ws event) (sym cut) (words_from_line line event spells))
 
--- the first word, told from its text, and the others
-pub first_word : (words : List (Bor (List ℕ))) (default : Bor (List ℕ)) (verb literal : List ℕ) (test : Bool) → 1 ≤ length words → literal ≡ verb → test ≡ bytes_eq (get_or words 0 default).now literal → test ≡ true → texts words ≡ verb ∷ texts (take (length words - 1) (drop 1 words))
-first_word [] default verb literal test some same is passed = absurd (omega arith)
-first_word (word ∷ words) default verb literal test some same is passed =
-    ap (λ first. first ∷ texts words) ((bytes_eq-Decides word.now literal).0 (sym is ∙ passed) ∙ same)
-    ∙ ap (λ others. verb ∷ texts others) (sym (take_all (suc (length words) - 1) words (omega arith)))
-
 -- no call begins as a boot does
-pub no_boot : (p : ℕ) (members : List ℕ) (r : ℕ) (call : Call) → words_of (Boot p members) ≡ words_at r call → ⊥
-no_boot p members r calls.Begin e = cc
-no_boot p members r (calls.Make t name kind) e = cc
-no_boot p members r (calls.Get t name key) e = cc
-no_boot p members r (calls.Set t name key value) e = cc
-no_boot p members r (calls.Commit t) e = cc
+no_boot : (p : ℕ) (members : List ℕ) (r : ℕ) (call : Call) → words_of (Boot p members) ≡ words_at r call → ⊥
+no_boot p members r call e = grind arith
 
 -- words are one event's
 same_call : (r : ℕ) (a b : Call) → IsBuiltCall a → IsBuiltCall b → words_at r a ≡ words_at r b → a ≡ b

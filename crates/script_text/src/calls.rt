@@ -7,7 +7,11 @@ use rc_base::NoMemory;
 use std::alloc::Global;
 
 // The call of a sentence's first word and of those behind its replica.
-pub(crate) fn call_of(alloc: Global, verb: &[u8], operands: &[&[u8]]) -> Result<Option<Call>, NoMemory>
+pub(crate) fn call_of(
+    alloc: Global,
+    verb: &[u8],
+    operands: &[&[u8]],
+) -> Result<Option<Call>, NoMemory>
     ensures { IfOk result (AreReadAsCall verb.now (texts operands.now)) }
 {
     match verb {

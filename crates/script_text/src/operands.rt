@@ -73,7 +73,11 @@ pub(crate) fn value_of(alloc: Global, word: &[u8]) -> Result<Option<Bytes>, NoMe
 }
 
 // `T NAME`, the operands of each call in a collection.
-pub(crate) fn at_name(alloc: Global, t: &[u8], name: &[u8]) -> Result<Option<(TxnId, Name)>, NoMemory>
+pub(crate) fn at_name(
+    alloc: Global,
+    t: &[u8],
+    name: &[u8],
+) -> Result<Option<(TxnId, Name)>, NoMemory>
     ensures some { IfOk result (λ read. IfSome read (λ at.
         IsBuiltTxn at.0 × IsTrue (names.is_name at.1) × (t.now ≡ txn_text at.0) × (name.now ≡ at.1))) }
     ensures none { IfOk result (λ read. IfNone read ((u : TxnValue) → IsBuiltTxn u → t.now ≡ txn_text u
@@ -86,7 +90,12 @@ pub(crate) fn at_name(alloc: Global, t: &[u8], name: &[u8]) -> Result<Option<(Tx
 }
 
 // `T NAME KEY`, the operands of each call at a key of a dictionary.
-pub(crate) fn at_key(alloc: Global, t: &[u8], name: &[u8], key: &[u8]) -> Result<Option<(TxnId, Name, Bytes)>, NoMemory>
+pub(crate) fn at_key(
+    alloc: Global,
+    t: &[u8],
+    name: &[u8],
+    key: &[u8],
+) -> Result<Option<(TxnId, Name, Bytes)>, NoMemory>
     ensures some { IfOk result (λ read. IfSome read (λ at.
         IsBuiltTxn at.0 × IsTrue (names.is_name at.1) × IsTrue (letters.is_key_word at.2)
         × (t.now ≡ txn_text at.0) × (name.now ≡ at.1) × (key.now ≡ at.2))) }
