@@ -11,7 +11,8 @@ use Rattle.rc_base.specs.Fields.{Reader, with_length, number_at, bytes_at}
 use Rattle.rc_base.proofs.FieldLaws.{IsBytes, IsWide, wide8, wide32, wide64, wide128, number_takes, number_again, bytes_takes, bytes_again}
 use Rattle.coll_model.specs.declared.op.Kind.{Kind}
 use Rattle.coll_model.specs.declared.op.Kind.TheVariants as kinds
-use Rattle.log_records.specs.Spelling.{is_name, is_key, is_value, is_name_letter, byte, long, name, string, kind, flag, epoch, txn, joined, EpochInRange, TxnInRange}
+use Rattle.rc_base.specs.Names.{is_name, is_name_letter}
+use Rattle.log_records.specs.Spelling.{is_key, is_value, byte, long, name, string, kind, flag, epoch, txn, joined, EpochInRange, TxnInRange}
 use Rattle.log_records.specs.Reading.{◌>>=◌, field, in_front, read_number, read_word, read_name, read_key, read_value, read_kind, read_flag, read_slot, read_format, read_epoch, read_txn}
 use Rattle.log_records.proofs.Steps.{Step, Takes, Again, bind_ok, done, gave, ok_is, two_takes, two_again, pick, leaf, nothing}
 

@@ -14,7 +14,8 @@ use Rattle.log_records.specs.declared.record.Physical.{Physical}
 use Rattle.log_records.specs.declared.record.Physical.TheVariants.{Logical, Fence, TruncateTail, CheckpointDone, Reset, Head}
 use Rattle.log_records.specs.declared.error.CodecError.{CodecError}
 use Rattle.log_records.specs.declared.error.CodecError.TheVariants as errors
-use Rattle.log_records.specs.Spelling.{is_name, is_key, is_value}
+use Rattle.rc_base.specs.Names.{is_name}
+use Rattle.log_records.specs.Spelling.{is_key, is_value}
 
 infixl 10 ◌>>=◌
 abbrev pub ◌>>=◌ : {A B : Type 0} → Result A ℕ → (A → Result B ℕ) → Result B ℕ

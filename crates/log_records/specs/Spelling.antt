@@ -1,11 +1,11 @@
 -- The spellings of operations and of the log's records: of each the list of its fields, one after the other. Numbers are
 -- big-endian and of fixed width, lengths stand before bytes, and the first field of what has several forms is its tag.
-use Rattle.std.specs.Prelude.{◌≡◌, ◌==◌, ℕ, ◌<◌, ◌^◌, Bool, true, false, ◌&&◌, ◌||◌, nat_le, List, [], ◌∷◌, ◌++◌, length, drop, Result, Ok, Err, IsTrue}
-use Rattle.std.specs.List.{list_all}
+use Rattle.std.specs.Prelude.{◌≡◌, ℕ, ◌<◌, ◌^◌, Bool, true, false, ◌&&◌, nat_le, List, [], ◌∷◌, ◌++◌, length, drop, Result, Ok, Err, IsTrue}
 use Rattle.std.specs.Int.{w8, w32, w64, w128, to_be_bytes}
 use Rattle.rc_base.specs.declared.ids.Epoch.{Epoch}
 use Rattle.rc_base.specs.declared.ids.TxnId.{TxnId}
 use Rattle.rc_base.specs.Fields.{with_length}
+use Rattle.rc_base.specs.Names.{is_name}
 use Rattle.coll_model.specs.declared.op.Kind.{Kind}
 use Rattle.coll_model.specs.declared.op.Kind.TheVariants as kinds
 use Rattle.coll_model.specs.declared.op.Op.{Op}
@@ -18,13 +18,6 @@ use Rattle.log_records.specs.declared.record.Physical.{Physical}
 use Rattle.log_records.specs.declared.record.Physical.TheVariants.{Logical, Fence, TruncateTail, CheckpointDone, Reset, Head}
 
 -- ---- words
-
--- `a` to `z`, `0` to `9`, `_`, `-`
-abbrev pub is_name_letter : ℕ → Bool
-is_name_letter c = (nat_le 97 c && nat_le c 122) || ((nat_le 48 c && nat_le c 57) || (c == 95 || c == 45))
-
-abbrev pub is_name : List ℕ → Bool
-is_name text = (nat_le 1 (length text) && nat_le (length text) 64) && list_all is_name_letter text
 
 abbrev pub is_key : List ℕ → Bool
 is_key text = nat_le 1 (length text) && nat_le (length text) 128

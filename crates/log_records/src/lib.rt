@@ -13,7 +13,7 @@ pub use codec::{decode, decode_op, decode_record, encode, encode_op, encode_reco
 pub use error::CodecError;
 pub use law::one_spelling;
 pub use record::{Physical, Record};
-pub use words::{is_key, is_name, is_value};
+pub use words::{is_key, is_value};
 pub use writing::{op_fits, physical_fits, record_fits};
 
 #[cfg(test)]

@@ -4,9 +4,9 @@ ghost use Rattle.log_records.specs.Reading.{Gives, read_number, read_name, read_
 
 use crate::error::CodecError;
 use crate::record::{Physical, Record};
-use crate::words::{is_key, is_name, is_value};
+use crate::words::{is_key, is_value};
 use coll_model::{Kind, Op};
-use rc_base::{Bytes, Epoch, Fields, Lsn, Name, TxnId};
+use rc_base::{Bytes, Epoch, Fields, Lsn, Name, TxnId, is_name};
 use std::alloc::Global;
 
 #[tactic(auto, unfolding(crate::specs::Reading::read_number))]

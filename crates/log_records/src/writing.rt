@@ -1,12 +1,14 @@
 ghost use Rattle.std.specs.Prelude.{◌≡◌, ◌↔◌, ◌++◌, OnOk, IsTrue};
+ghost use Rattle.rc_base.specs.Names as names;
 ghost use Rattle.log_records.specs.Spelling as words;
 ghost use Rattle.log_records.specs.Spelling.{name, string, kind, epoch, txn, op, logical, physical, joined, OpFits, LogicalFits, PhysicalFits};
 
 use crate::record::{Physical, Record};
-use crate::words::{is_key, is_name, is_value};
+use crate::words::{is_key, is_value};
 use coll_model::{Kind, Op};
 use rc_base::{
-    Bytes, Epoch, Name, NoMemory, TxnId, put_bytes, put_short, put_u8, put_u32, put_u64, put_u128,
+    Bytes, Epoch, Name, NoMemory, TxnId, is_name, put_bytes, put_short, put_u8, put_u32, put_u64,
+    put_u128,
 };
 
 /// Whether the operation has a spelling: its name, key and value are such words.
@@ -46,7 +48,7 @@ pub fn physical_fits(item: &Physical) -> bool
 
 #[tactic(auto, using(crate::proofs::FieldCodec::name_bound))]
 fn put_name(out: &mut Vec<u8>, text: &Name) -> Result<(), NoMemory>
-    requires { IsTrue (words.is_name text.now) }
+    requires { IsTrue (names.is_name text.now) }
     ensures { OnOk result (out.new.items ≡ out.old.items ++ name text.now) }
 {
     put_short(out, text.as_slice())

@@ -8,6 +8,7 @@ mod ids;
 mod limit_name;
 mod members;
 mod name;
+mod names;
 mod no_memory;
 mod quorum;
 
@@ -17,6 +18,7 @@ pub use ids::{Epoch, Lsn, ReplicaId, TxnId};
 pub use limit_name::LimitName;
 pub use members::{Members, MembersError};
 pub use name::Name;
+pub use names::is_name;
 pub use no_memory::NoMemory;
 pub use quorum::{read_quorum, write_quorum};
 

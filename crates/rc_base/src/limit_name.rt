@@ -1,3 +1,6 @@
+ghost use Rattle.std.specs.Prelude.{◌≡◌};
+ghost use Rattle.rc_base.specs.Limits.{limit_word};
+
 use std::fmt;
 
 /// The limits at which a run ends. Each prints as its name in small letters.
@@ -21,9 +24,12 @@ pub enum LimitName {
     Number,
 }
 
-impl fmt::Display for LimitName {
-    fn fmt<W: fmt::Write>(&self, f: &mut fmt::Formatter<W>) -> fmt::Result {
-        f.write_str(match self {
+impl LimitName {
+    /// Its word: its name in small letters.
+    pub fn word(self) -> &'static str
+        ensures { result.now ≡ limit_word self }
+    {
+        match self {
             LimitName::Lines => "lines",
             LimitName::Line => "line",
             LimitName::Bytes => "bytes",
@@ -32,6 +38,12 @@ impl fmt::Display for LimitName {
             LimitName::Packets => "packets",
             LimitName::Lsn => "lsn",
             LimitName::Number => "number",
-        })
+        }
+    }
+}
+
+impl fmt::Display for LimitName {
+    fn fmt<W: fmt::Write>(&self, f: &mut fmt::Formatter<W>) -> fmt::Result {
+        f.write_str(self.word())
     }
 }

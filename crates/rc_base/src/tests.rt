@@ -73,3 +73,23 @@ fn fields_again(rt: HostRuntime) -> Result<(), Fail> {
     assert_eq!(rt; fields.take_u8(), Err(Bad { at: 37 }));
     Ok(())
 }
+
+#[test]
+fn names_of_collections(rt: HostRuntime) {
+    for text in ["d", "a-z_09", "_", "-", "0"] {
+        assert!(rt; is_name(text.as_bytes()), "{text}");
+    }
+    for text in ["", "D", "aZ", "a b", "a.b", "a/b", "é"] {
+        assert!(rt; !is_name(text.as_bytes()), "{text}");
+    }
+    assert!(rt; is_name(&[b'n'; 64]));
+    assert!(rt; !is_name(&[b'n'; 65]));
+}
+
+#[test]
+fn limits_print_their_words(rt: HostRuntime) -> Result<(), Fail> {
+    assert_eq!(rt; LimitName::Names.word(), "names");
+    let text = format!(in rt.alloc(); "{} {}", LimitName::Lines, LimitName::Lsn)?;
+    assert_eq!(rt; text.as_str(), "lines lsn");
+    Ok(())
+}

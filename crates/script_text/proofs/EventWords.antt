@@ -1,15 +1,23 @@
 -- What stands in the words of each event, and that the words tell the event.
-use Rattle.std.proofs.Common.{◌≡◌, ℕ, ◌<◌, List, [], ◌∷◌, length, get_or, take, drop, suc, ◌-◌, decimal, Bool, true, ◌≤◌, eqb, refl, sym, ap, subst, ◌∙◌, arith, rules, lit<}
+use Rattle.std.proofs.Common.{◌≡◌, ℕ, ◌<◌, List, [], ◌∷◌, length, get_or, take, drop, suc, ◌-◌, decimal, Bool, true, false, ◌&&◌, ◌≤◌, eqb, leb, refl, sym, ap, subst, ◌∙◌, arith, rules, lit<}
+use Rattle.std.specs.Prelude.{IsTrue}
 use Rattle.std.proofs.lemmas.Fmt.{decimal_injective}
 use Rattle.std.specs.Borrow.{Bor}
-use Rattle.std.specs.List.{slice_split}
+use Rattle.std.specs.List.{slice_split, list_all}
 use Rattle.std.specs.Str.{bytes_eq}
+use Rattle.std.proofs.lemmas.Bool.{ne_eqb, false≢true}
 use Rattle.std.proofs.lemmas.List.{take_all}
 use Rattle.std.proofs.lemmas.Slice.Eq.{bytes_eq-Decides}
 use Rattle.rc_base.specs.declared.ids.TxnId.{TxnId}
+use Rattle.rc_base.specs.Names.{is_name_letter, is_name}
+use Rattle.coll_model.specs.declared.op.Kind.{Kind}
+use Rattle.coll_model.specs.declared.op.Kind.TheVariants as kinds
 use Rattle.script_text.specs.declared.event.Event.{Event}
-use Rattle.script_text.specs.declared.event.Event.TheVariants.{Boot, Begin, Commit}
-use Rattle.script_text.specs.Sentence.{words_of, txn_text, members_text, IsTxn, IsBuilt, Spells}
+use Rattle.script_text.specs.declared.event.Event.TheVariants.{Boot, Client}
+use Rattle.script_text.specs.declared.event.Call.{Call}
+use Rattle.script_text.specs.declared.event.Call.TheVariants as calls
+use Rattle.script_text.specs.Letters.{is_key_letter, is_key_word, is_value_word}
+use Rattle.script_text.specs.Sentence.{words_at, words_of, txn_text, kind_text, members_text, IsTxn, IsBuiltTxn, IsBuiltCall, IsBuilt, Spells}
 use Rattle.script_text.specs.Reading.{texts, txn_parts, IsSentence}
 use Rattle.script_text.proofs.Numbers.{Lacks, Lacks-decimal}
 use Rattle.script_text.proofs.Parts.{AllLack, Lacks-joined, joined_from_parts, parts_from_joined}
@@ -40,19 +48,63 @@ same_txn word t u is_t is_u of_t of_u =
           let ns : decimal t.n ≡ decimal u.n = cc in
           txn_from_parts t u (decimal_injective t.epoch.loss u.epoch.loss (omega arith) (omega arith) losses) (decimal_injective t.epoch.number u.epoch.number (omega arith) (omega arith) numbers) (decimal_injective t.n u.n (omega arith) (omega arith) ns)
 
--- words hold no space
+same_built : (t u : TxnId) → IsBuiltTxn t → IsBuiltTxn u → txn_text t ≡ txn_text u → t ≡ u
+same_built t u is_t is_u same = same_txn (txn_text t) t u is_t.0 is_u.0 refl same
+
+-- ---- words hold no space
+
+Lacks-zero : (r : ℕ) → r ≡ 0 → Lacks 32 (decimal r)
+Lacks-zero r zero = Lacks-decimal 32 r (lit< tt) (omega arith)
+
+both : (a b : Bool) → (a && b) ≡ true → (a ≡ true) × (b ≡ true)
+both true b h = (refl, h)
+both false b h = absurd cc
+
+Lacks-text : (test : ℕ → Bool) (text : List ℕ) → test 32 ≡ false → IsTrue (list_all test text) → Lacks 32 text
+Lacks-text test [] space all = tt
+Lacks-text test (b ∷ bytes) space all =
+    let each = both (test b) (list_all test bytes) all in
+    (ne_eqb b 32 (λ e. false≢true (sym space ∙ (ap test (sym e) ∙ each.0))), Lacks-text test bytes space each.1)
+
+Lacks-txn : (t : TxnId) → IsBuiltTxn t → Lacks 32 (txn_text t)
+Lacks-txn t is = Lacks-joined 32 46 (txn_parts t) refl (AllLack-txn_parts 32 t (lit< tt) is.0)
+
+Lacks-name : (name : List ℕ) → IsTrue (is_name name) → Lacks 32 name
+Lacks-name name is = Lacks-text is_name_letter name refl (both (leb 1 (length name) && leb (length name) 64) (list_all is_name_letter name) is).1
+
+Lacks-key : (key : List ℕ) → IsTrue (is_key_word key) → Lacks 32 key
+Lacks-key key is = Lacks-text is_key_letter key refl (both (leb 1 (length key) && leb (length key) 128) (list_all is_key_letter key) is).1
+
+Lacks-value : (value : List ℕ) → IsTrue (is_value_word value) → Lacks 32 value
+Lacks-value value is = Lacks-text is_key_letter value refl (both (leb 1 (length value) && leb (length value) 1024) (list_all is_key_letter value) is).1
+
+Lacks-kind : (kind : Kind) → Lacks 32 (kind_text kind)
+Lacks-kind kinds.Dict = search rules
+Lacks-kind kinds.Queue = search rules
+
+-- one line for each form
+AllLack-call : (r : ℕ) (call : Call) → r ≡ 0 → IsBuiltCall call → AllLack 32 (words_at r call)
+AllLack-call r calls.Begin zero is = (search rules, (Lacks-zero r zero, tt))
+AllLack-call r (calls.Make t name kind) zero is = (search rules, (Lacks-zero r zero, (Lacks-txn t is.0, (Lacks-name name is.1, (Lacks-kind kind, tt)))))
+AllLack-call r (calls.Get t name key) zero is = (search rules, (Lacks-zero r zero, (Lacks-txn t is.0, (Lacks-name name is.1, (Lacks-key key is.2, tt)))))
+AllLack-call r (calls.Set t name key value) zero is =
+    (search rules, (Lacks-zero r zero, (Lacks-txn t is.0, (Lacks-name name is.1, (Lacks-key key is.2, (Lacks-value value is.3, tt))))))
+AllLack-call r (calls.Commit t) zero is = (search rules, (Lacks-zero r zero, (Lacks-txn t is, tt)))
+
 AllLack-words : (event : Event) → IsBuilt event → AllLack 32 (words_of event)
-AllLack-words (Boot p members) is = (search rules, (Lacks-decimal 32 p (lit< tt) (omega arith), (one_member members is.1, tt))) where
+AllLack-words (Boot p members) is = (search rules, (Lacks-zero p is.0, (one_member members is.1, tt))) where
   one_member : (ms : List ℕ) → ms ≡ 0 ∷ [] → Lacks 32 (members_text ms)
   one_member ms e = rw e (Lacks-decimal 32 0 (lit< tt) (lit< tt))
-AllLack-words (Begin r) is = (search rules, (Lacks-decimal 32 r (lit< tt) (omega arith), tt))
-AllLack-words (Commit r t) is =
-    (search rules, (Lacks-decimal 32 r (lit< tt) (omega arith), (Lacks-joined 32 46 (txn_parts t) refl (AllLack-txn_parts 32 t (lit< tt) is.1), tt)))
+AllLack-words (Client r call) is = AllLack-call r call is.0 is.1
+
+some_words_at : (r : ℕ) (call : Call) → 0 < length (words_at r call)
+some_words_at r call = grind arith
 
 some_words : (event : Event) → 0 < length (words_of event)
 some_words (Boot p members) = lit< tt
-some_words (Begin r) = lit< tt
-some_words (Commit r t) = lit< tt
+some_words (Client r call) = some_words_at r call
+
+-- ---- lines and their words
 
 -- the words of a line are those of its event
 pub words_from_line : (line : List ℕ) (event : Event) → Spells line event → IsSentence (slice_split (λ b. eqb b 32) line) event
@@ -70,21 +122,29 @@ line_from_words line words event cut is = record {
 pub no_line_from_words : (line : List ℕ) (words : List (List ℕ)) → words ≡ slice_split (λ b. eqb b 32) line → ((event : Event) → IsSentence words event → ⊥) → (event : Event) → Spells line event → ⊥
 no_line_from_words line words cut none event spells = none event (subst (λ ws. IsSentence ws event) (sym cut) (words_from_line line event spells))
 
--- the first word, told from its text, and the others
-pub first_word : (words : List (Bor (List ℕ))) (default : Bor (List ℕ)) (verb literal : List ℕ) (test : Bool) → 1 ≤ length words → literal ≡ verb → test ≡ bytes_eq (get_or words 0 default).now literal → test ≡ true → texts words ≡ verb ∷ texts (take (length words - 1) (drop 1 words))
-first_word [] default verb literal test some same is passed = absurd (omega arith)
-first_word (word ∷ words) default verb literal test some same is passed =
-    ap (λ first. first ∷ texts words) ((bytes_eq-Decides word.now literal).0 (sym is ∙ passed) ∙ same)
-    ∙ ap (λ others. verb ∷ texts others) (sym (take_all (suc (length words) - 1) words (omega arith)))
+-- no call begins as a boot does
+no_boot : (p : ℕ) (members : List ℕ) (r : ℕ) (call : Call) → words_of (Boot p members) ≡ words_at r call → ⊥
+no_boot p members r call e = grind arith
 
 -- words are one event's
+same_call : (r : ℕ) (a b : Call) → IsBuiltCall a → IsBuiltCall b → words_at r a ≡ words_at r b → a ≡ b
+same_call r calls.Begin calls.Begin is_a is_b e = refl
+same_call r (calls.Make t name kind) (calls.Make u other sort) is_a is_b e =
+    let same = same_built t u is_a.0 is_b.0 cc in cc
+same_call r (calls.Get t name key) (calls.Get u other at) is_a is_b e =
+    let same = same_built t u is_a.0 is_b.0 cc in cc
+same_call r (calls.Set t name key value) (calls.Set u other at given) is_a is_b e =
+    let same = same_built t u is_a.0 is_b.0 cc in cc
+same_call r (calls.Commit t) (calls.Commit u) is_a is_b e = ap calls.Commit (same_built t u is_a is_b cc)
+same_call r _ _ is_a is_b e = grind arith
+
 same_event : (a b : Event) → IsBuilt a → IsBuilt b → words_of a ≡ words_of b → a ≡ b
 same_event (Boot p members) (Boot q others) is_a is_b e = cc
-same_event (Begin r) (Begin s) is_a is_b e = cc
-same_event (Commit r t) (Commit s u) is_a is_b e =
-    let text : txn_text t ≡ txn_text u = cc in
-    let same = same_txn (txn_text t) t u is_a.1 is_b.1 refl text in cc
-same_event _ _ is_a is_b e = grind arith
+same_event (Client r call) (Client s other) is_a is_b e =
+    let replicas : r ≡ s = is_a.0 ∙ sym is_b.0 in
+    let calls_same : call ≡ other = same_call r call other is_a.1 is_b.1 (e ∙ ap (λ q. words_at q other) (sym replicas)) in cc
+same_event (Boot p members) (Client s call) is_a is_b e = absurd (no_boot p members s call e)
+same_event (Client r call) (Boot q others) is_a is_b e = absurd (no_boot q others r call (sym e))
 
 pub same_from_line : (line : List ℕ) (a b : Event) → Spells line a → Spells line b → a ≡ b
 same_from_line line a b spells_a spells_b =

@@ -3,7 +3,8 @@ use Rattle.std.specs.Prelude.{◌≡◌, ℕ, List, [], ◌∷◌, map, decimal,
 use Rattle.std.specs.Borrow.{Bor}
 use Rattle.rc_base.specs.declared.ids.TxnId.{TxnId}
 use Rattle.script_text.specs.declared.event.Event.{Event}
-use Rattle.script_text.specs.Sentence.{words_of, IsBuilt}
+use Rattle.script_text.specs.declared.event.Call.{Call}
+use Rattle.script_text.specs.Sentence.{words_at, words_of, IsBuilt, IsBuiltCall}
 
 -- the texts that slices hold
 abbrev pub texts : List (Bor (List ℕ)) → List (List ℕ)
@@ -21,3 +22,12 @@ pub record IsSentence (words : List (List ℕ)) (event : Event) : Type 0 where
 -- words are read as the event whose sentence they are, or as none where they are no sentence
 abbrev pub AreReadAs : List (List ℕ) → Option Event → Type 0
 AreReadAs words read = MatchOption read ((event : Event) → IsSentence words event → ⊥) (IsSentence words)
+
+-- the first word, and those behind the replica's, are this call's at replica 0, and its sentence is built
+pub record IsCall (verb : List ℕ) (operands : List (List ℕ)) (call : Call) : Type 0 where
+  pub spelled : verb ∷ decimal 0 ∷ operands ≡ words_at 0 call
+  pub built : IsBuiltCall call
+
+-- they are read as the call whose they are, or as none where they are no call's
+abbrev pub AreReadAsCall : List ℕ → List (List ℕ) → Option Call → Type 0
+AreReadAsCall verb operands read = MatchOption read ((call : Call) → IsCall verb operands call → ⊥) (IsCall verb operands)

@@ -1,13 +1,14 @@
 ghost use Rattle.std.specs.Prelude.{◌≡◌, ◌∷◌, List, ℕ, codes, decimal, IfOk, IfSome, IfNone};
-ghost use Rattle.rc_base.specs.declared.ids.TxnId.{TxnId};
-ghost use Rattle.script_text.specs.Sentence.{IsTxn, txn_text};
-ghost use Rattle.script_text.specs.Reading.{texts, AreReadAs};
+ghost use Rattle.script_text.specs.declared.event.Call.{Call as CallValue};
+ghost use Rattle.script_text.specs.declared.event.Event.TheVariants.{Client};
+ghost use Rattle.script_text.specs.Reading.{texts, IsSentence, AreReadAs};
 
+use crate::calls::call_of;
 use crate::event::Event;
+use crate::operands::built_replica;
 use crate::replicas::Replicas;
-use crate::words::{replica, txn};
-use rc_base::{NoMemory, ReplicaId, TxnId};
-use std::alloc::{AllocError, Global};
+use rc_base::NoMemory;
+use std::alloc::Global;
 
 // The event whose sentence the words are.
 pub(crate) fn sentence(alloc: Global, words: &[&[u8]]) -> Result<Option<Event>, NoMemory>
@@ -16,11 +17,16 @@ pub(crate) fn sentence(alloc: Global, words: &[&[u8]]) -> Result<Option<Event>, 
     let [verb, operands @ ..] = words else {
         return Ok(None);
     };
-    match *verb {
+    event_of(alloc, verb, operands)
+}
+
+// The event of a first word and those behind it. What is no form of its own is a client's call.
+fn event_of(alloc: Global, verb: &[u8], operands: &[&[u8]]) -> Result<Option<Event>, NoMemory>
+    ensures { IfOk result (AreReadAs (verb.now ∷ texts operands.now)) }
+{
+    match verb {
         verb if verb == b"boot".as_slice() => boot(alloc, operands),
-        verb if verb == b"begin".as_slice() => Ok(begin(operands)),
-        verb if verb == b"commit".as_slice() => commit(alloc, operands),
-        _ => Ok(None),
+        _ => client(alloc, verb, operands),
     }
 }
 
@@ -39,47 +45,17 @@ fn boot(alloc: Global, operands: &[&[u8]]) -> Result<Option<Event>, NoMemory>
     Ok(Some(Event::Boot(p, members)))
 }
 
-// `begin R`.
-fn begin(operands: &[&[u8]]) -> Option<Event>
-    ensures { AreReadAs (codes "begin" ∷ texts operands.now) result }
-{
-    let [r] = operands else {
-        return None;
-    };
-    Some(Event::Begin(built_replica(r)?))
-}
-
-// `commit R T`.
-fn commit(alloc: Global, operands: &[&[u8]]) -> Result<Option<Event>, NoMemory>
-    ensures { IfOk result (AreReadAs (codes "commit" ∷ texts operands.now)) }
-{
-    let [r, t] = operands else {
-        return Ok(None);
-    };
-    let (Some(r), Some(t)) = (built_replica(r), built_txn(alloc, t)?) else {
-        return Ok(None);
-    };
-    Ok(Some(Event::Commit(r, t)))
-}
-
-// Replica 0: there is no other so far.
-fn built_replica(word: &[u8]) -> Option<ReplicaId>
-    ensures some { IfSome result (λ r. (r ≡ 0) × (word.now ≡ decimal r)) }
-    ensures none { IfNone result (word.now ≡ decimal 0 → ⊥) }
-{
-    let r = replica(word)?;
-    if r.number() == 0 { Some(r) } else { None }
-}
-
-// A transaction of an epoch before the first declared loss: there is no other so far.
-fn built_txn(alloc: Global, word: &[u8]) -> Result<Option<TxnId>, AllocError>
-    ensures some { IfOk result (λ read. IfSome read (λ t.
-        IsTxn t × (t.epoch.loss ≡ 0) × (word.now ≡ txn_text t))) }
+// `VERB R ..`: a client's call at R.
+fn client(alloc: Global, verb: &[u8], operands: &[&[u8]]) -> Result<Option<Event>, NoMemory>
+    ensures some { IfOk result (λ read. IfSome read (IsSentence (verb.now ∷ texts operands.now))) }
     ensures none { IfOk result (λ read. IfNone read
-        ((t : TxnId) → IsTxn t → t.epoch.loss ≡ 0 → word.now ≡ txn_text t → ⊥)) }
+        ((r : ℕ) (call : CallValue) → IsSentence (verb.now ∷ texts operands.now) (Client r call) → ⊥)) }
 {
-    match txn(alloc, word)? {
-        Some(t) if t.epoch.loss == 0 => Ok(Some(t)),
-        _ => Ok(None),
-    }
+    let [r, operands @ ..] = operands else {
+        return Ok(None);
+    };
+    let (Some(r), Some(call)) = (built_replica(r), call_of(alloc, verb, operands)?) else {
+        return Ok(None);
+    };
+    Ok(Some(Event::Client(r, call)))
 }

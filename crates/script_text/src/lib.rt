@@ -1,13 +1,15 @@
 //! The script's text: each sentence is an event, each event has one text, and a line is a sentence, skipped, or bad.
 #![tactic(auto)]
 
+mod calls;
 mod event;
 mod forms;
+mod operands;
 mod read;
 mod replicas;
 mod words;
 
-pub use event::Event;
+pub use event::{Call, Event};
 pub use read::{ScriptError, read_event};
 pub use replicas::Replicas;
 

@@ -1,6 +1,7 @@
 ghost use Rattle.std.specs.Prelude.{◌≡◌, ◌==◌, ◌<◌, ◌^◌, ℕ, List, map, decimal, IfOk, IfSome, IfNone};
-ghost use Rattle.std.specs.List.{slice_split};
+ghost use Rattle.std.specs.List.{slice_split, list_all};
 ghost use Rattle.rc_base.specs.declared.ids.TxnId.{TxnId};
+ghost use Rattle.script_text.specs.Letters as letters;
 ghost use Rattle.script_text.specs.Sentence.{txn_text, IsTxn};
 ghost use Rattle.script_text.specs.Reading.{texts, txn_parts};
 
@@ -75,4 +76,30 @@ fn txn_of_parts(parts: &[&[u8]]) -> Option<TxnId>
     };
     let n = number(n)?;
     Some(TxnId { epoch, n })
+}
+
+// Whether it is a key's word: 1 to 128 letters of a key.
+pub(crate) fn is_key_word(word: &[u8]) -> bool
+    ensures { result ≡ letters.is_key_word word.now }
+{
+    !word.is_empty() && word.len() <= 128 && has_key_letters(word)
+}
+
+// Whether it is a value's word: 1 to 1,024 letters of a key.
+pub(crate) fn is_value_word(word: &[u8]) -> bool
+    ensures { result ≡ letters.is_value_word word.now }
+{
+    !word.is_empty() && word.len() <= 1024 && has_key_letters(word)
+}
+
+fn has_key_letters(word: &[u8]) -> bool
+    ensures { result ≡ list_all letters.is_key_letter word.now }
+{
+    word.iter().all(|letter| is_key_letter(*letter))
+}
+
+fn is_key_letter(letter: u8) -> bool
+    ensures { result ≡ letters.is_key_letter letter }
+{
+    letter.is_ascii_alphanumeric() || matches!(letter, b'_' | b'-' | b'.' | b'/')
 }

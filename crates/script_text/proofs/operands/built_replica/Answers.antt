@@ -1,6 +1,6 @@
 use Rattle.std.proofs.Common.{lit<, arith}
 use Rattle.script_text.proofs.Numbers.{same_number}
-use Rattle.script_text.proofs.forms.built_replica.Goals as goal
+use Rattle.script_text.proofs.operands.built_replica.Goals as goal
 
 pub returns-else-number-eq0-clause-none : goal.returns-else-number-eq0-clause-none
 returns-else-number-eq0-clause-none c = λ zero.

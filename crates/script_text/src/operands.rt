@@ -1,0 +1,109 @@
+ghost use Rattle.std.specs.Prelude.{◌≡◌, List, codes, decimal, IsTrue, IfOk, IfSome, IfNone, ℕ};
+ghost use Rattle.rc_base.specs.declared.ids.TxnId.{TxnId as TxnValue};
+ghost use Rattle.rc_base.specs.Names as names;
+ghost use Rattle.coll_model.specs.declared.op.Kind.TheVariants as kinds;
+ghost use Rattle.script_text.specs.Letters as letters;
+ghost use Rattle.script_text.specs.Sentence.{IsBuiltTxn, txn_text, kind_text};
+
+use crate::words::{is_key_word, is_value_word, replica, txn};
+use coll_model::Kind;
+use rc_base::{Bytes, Name, NoMemory, ReplicaId, TxnId, is_name};
+use std::alloc::{AllocError, Global};
+
+// Replica 0: there is no other so far.
+pub(crate) fn built_replica(word: &[u8]) -> Option<ReplicaId>
+    ensures some { IfSome result (λ r. (r ≡ 0) × (word.now ≡ decimal r)) }
+    ensures none { IfNone result (word.now ≡ decimal 0 → ⊥) }
+{
+    let r = replica(word)?;
+    if r.number() == 0 { Some(r) } else { None }
+}
+
+// A transaction of an epoch before the first declared loss: there is no other so far.
+pub(crate) fn built_txn(alloc: Global, word: &[u8]) -> Result<Option<TxnId>, AllocError>
+    ensures some { IfOk result (λ read. IfSome read (λ t. IsBuiltTxn t × (word.now ≡ txn_text t))) }
+    ensures none { IfOk result (λ read. IfNone read ((t : TxnValue) → IsBuiltTxn t → word.now ≡ txn_text t → ⊥)) }
+{
+    match txn(alloc, word)? {
+        Some(t) if t.epoch.loss == 0 => Ok(Some(t)),
+        _ => Ok(None),
+    }
+}
+
+// The kind `dict`: there is no other so far.
+pub(crate) fn built_kind(word: &[u8]) -> Option<Kind>
+    ensures some { IfSome result (λ kind. (kind ≡ kinds.Dict) × (word.now ≡ kind_text kind)) }
+    ensures none { IfNone result (word.now ≡ codes "dict" → ⊥) }
+{
+    if word == b"dict".as_slice() {
+        Some(Kind::Dict)
+    } else {
+        None
+    }
+}
+
+fn name_of(alloc: Global, word: &[u8]) -> Result<Option<Name>, NoMemory>
+    ensures some { IfOk result (λ read. IfSome read (λ name. IsTrue (names.is_name name) × (word.now ≡ name))) }
+    ensures none { IfOk result (λ read. IfNone read (IsTrue (names.is_name word.now) → ⊥)) }
+{
+    if !is_name(word) {
+        return Ok(None);
+    }
+    Ok(Some(Name::from_slice(alloc, word)?))
+}
+
+fn key_of(alloc: Global, word: &[u8]) -> Result<Option<Bytes>, NoMemory>
+    ensures some { IfOk result (λ read. IfSome read (λ key. IsTrue (letters.is_key_word key) × (word.now ≡ key))) }
+    ensures none { IfOk result (λ read. IfNone read (IsTrue (letters.is_key_word word.now) → ⊥)) }
+{
+    if !is_key_word(word) {
+        return Ok(None);
+    }
+    Ok(Some(Bytes::from_slice(alloc, word)?))
+}
+
+pub(crate) fn value_of(alloc: Global, word: &[u8]) -> Result<Option<Bytes>, NoMemory>
+    ensures some { IfOk result (λ read. IfSome read (λ value. IsTrue (letters.is_value_word value) × (word.now ≡ value))) }
+    ensures none { IfOk result (λ read. IfNone read (IsTrue (letters.is_value_word word.now) → ⊥)) }
+{
+    if !is_value_word(word) {
+        return Ok(None);
+    }
+    Ok(Some(Bytes::from_slice(alloc, word)?))
+}
+
+// `T NAME`, the operands of each call in a collection.
+pub(crate) fn at_name(
+    alloc: Global,
+    t: &[u8],
+    name: &[u8],
+) -> Result<Option<(TxnId, Name)>, NoMemory>
+    ensures some { IfOk result (λ read. IfSome read (λ at.
+        IsBuiltTxn at.0 × IsTrue (names.is_name at.1) × (t.now ≡ txn_text at.0) × (name.now ≡ at.1))) }
+    ensures none { IfOk result (λ read. IfNone read ((u : TxnValue) → IsBuiltTxn u → t.now ≡ txn_text u
+        → IsTrue (names.is_name name.now) → ⊥)) }
+{
+    let (Some(t), Some(name)) = (built_txn(alloc, t)?, name_of(alloc, name)?) else {
+        return Ok(None);
+    };
+    Ok(Some((t, name)))
+}
+
+// `T NAME KEY`, the operands of each call at a key of a dictionary.
+pub(crate) fn at_key(
+    alloc: Global,
+    t: &[u8],
+    name: &[u8],
+    key: &[u8],
+) -> Result<Option<(TxnId, Name, Bytes)>, NoMemory>
+    ensures some { IfOk result (λ read. IfSome read (λ at.
+        IsBuiltTxn at.0 × IsTrue (names.is_name at.1) × IsTrue (letters.is_key_word at.2)
+        × (t.now ≡ txn_text at.0) × (name.now ≡ at.1) × (key.now ≡ at.2))) }
+    ensures none { IfOk result (λ read. IfNone read ((u : TxnValue) → IsBuiltTxn u → t.now ≡ txn_text u
+        → IsTrue (names.is_name name.now) → IsTrue (letters.is_key_word key.now) → ⊥)) }
+{
+    let (Some((t, name)), Some(key)) = (at_name(alloc, t, name)?, key_of(alloc, key)?) else {
+        return Ok(None);
+    };
+    Ok(Some((t, name, key)))
+}
