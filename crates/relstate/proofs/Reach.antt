@@ -1,10 +1,11 @@
 -- How a run goes on from one line to the next, and how it ends.
-use Rattle.std.proofs.Common.{◌≡◌, ◌∙◌, sym, ap, subst, ℕ, ◌+◌, List, [], ◌∷◌, ◌++◌, length, take, drop, sum_by, Option, Some, Result, Ok, Err, refl, arith, inl, inr, append_assoc}
+use Rattle.std.proofs.Common.{◌≡◌, ◌∙◌, sym, ap, subst, ℕ, ◌+◌, List, [], ◌∷◌, ◌++◌, length, take, drop, sum_by, Option, Some, None, Result, Ok, Err, refl, arith, inl, inr, append_assoc, ◌⊎◌}
 use Rattle.std.proofs.lemmas.List.{append-nil, take-append-drop, length-append}
 use Rattle.std.proofs.lemmas.List.Sums.{sum_by-append}
+use Rattle.std.proofs.lemmas.Option.{none-some}
 use Rattle.rc_base.specs.declared.limit_name.LimitName.{LimitName}
 use Rattle.rc_io.specs.Lines.{raw_lines, line_text}
-use Rattle.rc_io.specs.Limits.{limit_of}
+use Rattle.rc_io.specs.Limits.{limit_in, limit_of}
 use Rattle.rc_io.specs.Reader.{Reading}
 use Rattle.rc_io.specs.Reading.{GivesLine}
 use Rattle.script_text.specs.declared.event.Event.{Event}
@@ -16,11 +17,11 @@ use Rattle.order_machine.specs.Lines.{lines_text, transcript_of}
 use Rattle.world.specs.Kept.{Kept}
 use Rattle.world.specs.World.{StandsFor, Serves}
 use Rattle.relstate.specs.Text.{bad_line_text, limit_line_text}
-use Rattle.relstate.specs.Ran.{Ending, AtBadLine, AtLimit, CutShort, Ends, IsBadAt, IsStatusOf, closing}
+use Rattle.relstate.specs.Ran.{Ending, AtEnd, AtBadLine, AtLimit, CutShort, Ends, IsBadAt, IsClean, IsStatusOf, Ran, closing}
 use Rattle.relstate.specs.Reached.{Done, Reached, HasEnded, Writes, status_of}
 use Rattle.relstate.specs.declared.lines.WriteError.{WriteError}
 use Rattle.relstate.specs.declared.lines.WriteError.TheVariants.{Failed, NoMemory}
-use Rattle.relstate.proofs.Steps.{step_of, skipped_more, spelled_more, whole_more, moved_more, written_more}
+use Rattle.relstate.proofs.Steps.{step_of, skipped_more, spelled_more, all_within, whole_more, built_more, moved_more, written_more}
 
 -- ---- the beginning
 
@@ -29,7 +30,7 @@ at_first input held world s = record {
   before = [];
   counted = refl;
   given = refl;
-  done = record { steps = []; cut = refl; spelled = tt; whole = tt; stands = s; text = sym (append-nil held) };
+  done = record { steps = []; cut = refl; within = tt; spelled = tt; whole = tt; built = tt; stands = s; text = sym (append-nil held) };
 }
 
 -- ---- the end
@@ -42,7 +43,7 @@ closes input held now before left world holds ending status (Ok t) d e s w =
     let text = transcript_of d.steps ++ closing ending (length before + 1) in (
       text,
       w ∙ ap Some (ap (λ xs. xs ++ closing ending (length before + 1)) d.text ∙ append_assoc held (transcript_of d.steps) (closing ending (length before + 1))),
-      record { before = before; left = left; steps = d.steps; ending = ending; lines = d.cut; spelled = d.spelled; whole = d.whole; ended = e; text = inl (s, refl) },
+      record { before = before; left = left; steps = d.steps; ending = ending; lines = d.cut; within = d.within; spelled = d.spelled; whole = d.whole; built = d.built; ended = e; text = inl (s, refl) },
     )
 closes input held now before left world holds ending status (Err Failed) d e s w =
     let last = closing ending (length before + 1) in
@@ -55,8 +56,10 @@ closes input held now before left world holds ending status (Err Failed) d e s w
         steps = d.steps;
         ending = ending;
         lines = d.cut;
+        within = d.within;
         spelled = d.spelled;
         whole = d.whole;
+        built = d.built;
         ended = e;
         text = inr (refl, (drop w.0 last, append_assoc (transcript_of d.steps) part (drop w.0 last) ∙ ap (λ xs. transcript_of d.steps ++ xs) (take-append-drop w.0 last)));
       },
@@ -70,8 +73,10 @@ closes input held now before left world holds ending status (Err NoMemory) d e s
     steps = d.steps;
     ending = CutShort;
     lines = d.cut;
+    within = d.within;
     spelled = d.spelled;
     whole = d.whole;
+    built = d.built;
     ended = tt;
     text = inl (inr refl, sym (append-nil (transcript_of d.steps)));
   },
@@ -90,8 +95,10 @@ stops input held now before left world holds ending status d e s c h = (
     steps = d.steps;
     ending = ending;
     lines = d.cut;
+    within = d.within;
     spelled = d.spelled;
     whole = d.whole;
+    built = d.built;
     ended = e;
     text = inl (s, sym (ap (λ xs. transcript_of d.steps ++ xs) c ∙ append-nil (transcript_of d.steps)));
   },
@@ -100,41 +107,45 @@ stops input held now before left world holds ending status d e s c h = (
 -- ---- one line
 
 -- a line that is skipped
-pub after_skipped : (input held now : List ℕ) (before left : List (List ℕ)) (raw : List ℕ) (world : Kept) → Done input held before (raw ∷ left) world now → IsSkipped (line_text raw) →
+pub after_skipped : (input held now : List ℕ) (before left : List (List ℕ)) (raw : List ℕ) (world : Kept) → Done input held before (raw ∷ left) world now → limit_in (length before) (sum_by length before) raw ≡ None → IsSkipped (line_text raw) →
     Done input held (before ++ raw ∷ []) left world now
-after_skipped input held now before left raw world d s = record {
+after_skipped input held now before left raw world d l s = record {
   steps = d.steps;
   cut = d.cut ∙ sym (append_assoc before (raw ∷ []) left);
+  within = all_within before raw d.within l;
   spelled = skipped_more 1 before d.steps raw d.spelled s;
   whole = d.whole;
+  built = d.built;
   stands = d.stands;
   text = d.text;
 }
 
 -- a line whose event is done and written
 pub after_event : (input held now now' : List ℕ) (before left : List (List ℕ)) (raw : List ℕ) (old new : Kept) (number : ℕ) (event : Event) (lines : List Observation) →
-    Done input held before (raw ∷ left) old now → Spells (line_text raw) event → number ≡ length before + 1 → Serves old new event (Ok lines) → now' ≡ now ++ lines_text number lines →
+    Done input held before (raw ∷ left) old now → limit_in (length before) (sum_by length before) raw ≡ None → Spells (line_text raw) event → number ≡ length before + 1 → Serves old new event (Ok lines) → now' ≡ now ++ lines_text number lines →
     Done input held (before ++ raw ∷ []) left new now'
-after_event input held now now' before left raw old new number event lines d spells n serves t =
+after_event input held now now' before left raw old new number event lines d l spells n serves t =
     let s = step_of number event lines in
     let done = serves (moved_all empty_machine d.steps) d.stands in
     record {
       steps = d.steps ++ s ∷ [];
       cut = d.cut ∙ sym (append_assoc before (raw ∷ []) left);
+      within = all_within before raw d.within l;
       spelled = spelled_more 1 before d.steps raw s d.spelled (omega arith) spells;
       whole = whole_more [] empty_machine d.steps s d.whole done.0;
+      built = built_more empty_machine d.steps s d.built done.2;
       stands = subst (StandsFor new) (sym (moved_more empty_machine d.steps s)) done.1;
       text = t ∙ ap (λ xs. xs ++ lines_text number lines) d.text ∙ append_assoc held (transcript_of d.steps) (lines_text number lines) ∙ ap (λ xs. held ++ xs) (sym (written_more d.steps s));
     }
 
 -- an event that is done, and whose lines are written whole, in part, or not at all
 pub event_cut_off : (input held now : List ℕ) (before left : List (List ℕ)) (raw : List ℕ) (old new : Kept) (holds : Option (List ℕ)) (number : ℕ) (event : Event) (lines : List Observation) (n : ℕ) →
-    Done input held before (raw ∷ left) old now → Spells (line_text raw) event → number ≡ length before + 1 → Serves old new event (Ok lines) →
+    Done input held before (raw ∷ left) old now → limit_in (length before) (sum_by length before) raw ≡ None → Spells (line_text raw) event → number ≡ length before + 1 → Serves old new event (Ok lines) →
     holds ≡ Some (now ++ take n (lines_text number lines)) → HasEnded input held 5 holds
 unfolding after_event
-event_cut_off input held now before left raw old new holds number event lines n d spells at serves w =
+event_cut_off input held now before left raw old new holds number event lines n d l spells at serves w =
     let text = lines_text number lines in
-    let all : Done input held (before ++ raw ∷ []) left new (now ++ text) = after_event input held now (now ++ text) before left raw old new number event lines d spells at serves refl in (
+    let all : Done input held (before ++ raw ∷ []) left new (now ++ text) = after_event input held now (now ++ text) before left raw old new number event lines d l spells at serves refl in (
       transcript_of d.steps ++ take n text,
       w ∙ ap Some (ap (λ xs. xs ++ take n text) d.text ∙ append_assoc held (transcript_of d.steps) (take n text)),
       record {
@@ -143,8 +154,10 @@ event_cut_off input held now before left raw old new holds number event lines n 
         steps = all.steps;
         ending = CutShort;
         lines = all.cut;
+        within = all.within;
         spelled = all.spelled;
         whole = all.whole;
+        built = all.built;
         ended = tt;
         text = inr (
           refl,
@@ -166,11 +179,19 @@ pub at_line : (input held ahead ahead' now : List ℕ) (old new : Reading) (worl
 at_line input held ahead ahead' now old new world text r g = record {
   steps = r.done.steps;
   cut = r.done.cut ∙ ap (λ xs. r.before ++ xs) g.first;
+  within = r.done.within;
   spelled = r.done.spelled;
   whole = r.done.whole;
+  built = r.done.built;
   stands = r.done.stands;
   text = r.done.text;
 }
+
+-- it reaches no limit
+pub line_within : (input held ahead ahead' now : List ℕ) (old new : Reading) (world : Kept) (text : List ℕ) (r : Reached input held old world ahead now) (g : GivesLine old new ahead ahead' text) →
+    limit_in (length r.before) (sum_by length r.before) g.raw ≡ None
+line_within input held ahead ahead' now old new world text r g =
+    ap (λ k. limit_in k (sum_by length r.before) g.raw) r.counted ∙ (ap (λ k. limit_in old.lines k g.raw) r.given ∙ g.within)
 
 -- and it is done
 pub next_reached : (input held ahead ahead' now now' : List ℕ) (old new : Reading) (world world' : Kept) (text : List ℕ) (r : Reached input held old world ahead now) (g : GivesLine old new ahead ahead' text) →
@@ -209,5 +230,22 @@ pub nothing_done : (input held : List ℕ) (holds : Option (List ℕ)) → holds
 nothing_done input held holds h = (
   [],
   h ∙ ap Some (sym (append-nil held)),
-  record { before = []; left = raw_lines input; steps = []; ending = CutShort; lines = refl; spelled = tt; whole = tt; ended = tt; text = inl (inr refl, refl) },
+  record { before = []; left = raw_lines input; steps = []; ending = CutShort; lines = refl; within = tt; spelled = tt; whole = tt; built = tt; ended = tt; text = inl (inr refl, refl) },
 )
+
+-- ---- completeness
+
+-- a run of a clean input that no fault ends was to the end, or memory was wanted
+pub complete : (input : List ℕ) (status : ℕ) (written : List ℕ) → Ran input status written → IsClean input → (status ≡ 4 → ⊥) → (status ≡ 5 → ⊥) → (status ≡ 0) ⊎ (status ≡ 8)
+complete input status written r clean source sink = by_text r.text
+  where
+    at : (ending : Ending) → Ends ending r.before (moved_all empty_machine r.steps) r.left → IsStatusOf ending status → (status ≡ 0) ⊎ (status ≡ 8)
+    at AtEnd e s = inl s
+    at AtBadLine e s = absurd ((clean r.before r.left r.lines).1 r.steps r.spelled r.whole e)
+    at (AtLimit which) e s = absurd (none-some which (sym (clean r.before r.left r.lines).0 ∙ e))
+    at CutShort e (inl s) = absurd (source s)
+    at CutShort e (inr s) = inr s
+
+    by_text : {W : Type 0} {V : Type 0} → (IsStatusOf r.ending status × W) ⊎ ((status ≡ 5) × V) → (status ≡ 0) ⊎ (status ≡ 8)
+    by_text (inl s) = at r.ending r.ended s.0
+    by_text (inr s) = absurd (sink s.0)

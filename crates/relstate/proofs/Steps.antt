@@ -1,15 +1,18 @@
 -- One line more, and one step more.
-use Rattle.std.proofs.Common.{◌≡◌, ◌∙◌, ap, ℕ, suc, ◌+◌, List, [], ◌∷◌, ◌++◌, length, refl, arith, inl, inr}
+use Rattle.std.proofs.Common.{◌≡◌, ◌∙◌, ap, ap₂, ℕ, suc, ◌+◌, List, [], ◌∷◌, ◌++◌, length, sum_by, None, refl, arith, inl, inr}
 use Rattle.std.proofs.lemmas.Grind.{flat_map-append}
 use Rattle.std.proofs.lemmas.List.{append-nil}
+use Rattle.std.proofs.lemmas.List.Sums.{sum_by-append}
 use Rattle.rc_io.specs.Lines.{line_text}
+use Rattle.rc_io.specs.Limits.{limit_in}
 use Rattle.script_text.specs.declared.event.Event.{Event}
 use Rattle.script_text.specs.Sentence.{Spells, IsSkipped}
 use Rattle.order_machine.specs.declared.observation.Observation.{Observation}
 use Rattle.order_machine.specs.Machine.{Machine}
+use Rattle.order_machine.specs.Rows.{IsUnbuilt}
 use Rattle.order_machine.specs.Legal.{Step, Filter, AreWhole, IsWhole, moved, moved_all}
 use Rattle.order_machine.specs.Lines.{lines_text, transcript_of}
-use Rattle.relstate.specs.Script.{AreSteps}
+use Rattle.relstate.specs.Script.{AreSteps, AreWithin, AreBuilt}
 
 abbrev pub step_of : ℕ → Event → List Observation → Step
 step_of number event lines = record { number = number; event = event; lines = lines }
@@ -45,6 +48,28 @@ spelled_more n (r ∷ rs) (x ∷ xs) raw s (inr a) e h = inr (a.0, a.1, spelled_
 pub whole_more : (filters : List Filter) (m : Machine) (steps : List Step) (s : Step) → AreWhole filters m steps → IsWhole (moved_all m steps) s.event s.lines → AreWhole filters m (steps ++ s ∷ [])
 whole_more filters m [] s a w = (w, tt)
 whole_more filters m (x ∷ xs) s a w = (a.0, whole_more filters (moved m x.event x.lines) xs s a.1 w)
+
+pub built_more : (m : Machine) (steps : List Step) (s : Step) → AreBuilt m steps → (IsUnbuilt (moved_all m steps) s.event → ⊥) → AreBuilt m (steps ++ s ∷ [])
+built_more m [] s a b = (b, tt)
+built_more m (x ∷ xs) s a b = (a.0, built_more (moved m x.event x.lines) xs s a.1 b)
+
+-- a line more that reaches no limit
+within_more : (lines given : ℕ) (raws : List (List ℕ)) (raw : List ℕ) → AreWithin lines given raws → limit_in (lines + length raws) (given + sum_by length raws) raw ≡ None → AreWithin lines given (raws ++ raw ∷ [])
+within_more lines given [] raw a h = (ap₂ (λ l g. limit_in l g raw) (add_none lines) (add_none given) ∙ h, tt)
+  where
+    add_none : (k : ℕ) → k ≡ k + 0
+    add_none k = omega arith
+within_more lines given (r ∷ rs) raw a h =
+    let lines_too : lines + 1 + length rs ≡ lines + length (r ∷ rs) = omega arith in
+    let bytes_too : given + length r + sum_by length rs ≡ given + sum_by length (r ∷ rs) = let sum = sum_by-append length (r ∷ []) rs in omega arith in
+    let same : limit_in (lines + 1 + length rs) (given + length r + sum_by length rs) raw ≡ limit_in (lines + length (r ∷ rs)) (given + sum_by length (r ∷ rs)) raw = ap₂ (λ l g. limit_in l g raw) lines_too bytes_too in
+    (a.0, within_more (lines + 1) (given + length r) rs raw a.1 (same ∙ h))
+
+pub all_within : (raws : List (List ℕ)) (raw : List ℕ) → AreWithin 0 0 raws → limit_in (length raws) (sum_by length raws) raw ≡ None → AreWithin 0 0 (raws ++ raw ∷ [])
+all_within raws raw a h = within_more 0 0 raws raw a (ap₂ (λ l g. limit_in l g raw) (none_add (length raws)) (none_add (sum_by length raws)) ∙ h)
+  where
+    none_add : (k : ℕ) → 0 + k ≡ k
+    none_add k = omega arith
 
 pub moved_more : (m : Machine) (steps : List Step) (s : Step) → moved_all m (steps ++ s ∷ []) ≡ moved (moved_all m steps) s.event s.lines
 moved_more m [] s = refl

@@ -1,5 +1,5 @@
 -- What a run of the command `world` does with an input, and what it writes.
-use Rattle.std.specs.Prelude.{◌≡◌, ℕ, ◌+◌, List, [], ◌∷◌, ◌++◌, length, sum_by, Some, ◌⊎◌}
+use Rattle.std.specs.Prelude.{◌≡◌, ℕ, ◌+◌, List, [], ◌∷◌, ◌++◌, length, sum_by, Some, None, ◌⊎◌}
 use Rattle.rc_base.specs.declared.limit_name.LimitName.{LimitName}
 use Rattle.rc_io.specs.Lines.{raw_lines, line_text}
 use Rattle.rc_io.specs.Limits.{limit_of}
@@ -10,7 +10,7 @@ use Rattle.order_machine.specs.Rows.{IsUnbuilt}
 use Rattle.order_machine.specs.Legal.{Step, AreWhole, moved_all}
 use Rattle.order_machine.specs.Lines.{transcript_of}
 use Rattle.relstate.specs.Text.{bad_line_text, limit_line_text}
-use Rattle.relstate.specs.Script.{AreSteps}
+use Rattle.relstate.specs.Script.{AreSteps, AreWithin, AreBuilt}
 
 -- Why no more lines are done: none is left; the next one is bad; a limit is reached in it; or the run is cut short
 -- there, by a fault or by want of memory.
@@ -50,17 +50,25 @@ IsStatusOf CutShort status = (status ≡ 4) ⊎ (status ≡ 8)
 abbrev pub Begins : List ℕ → List ℕ → Type 0
 Begins part text = (more : List ℕ) × (part ++ more ≡ text)
 
--- The first lines of the input are done: they are skipped, or are events with all of their lines, which are those of
--- one run of the machine from its start. The ending has its cause in what is left. All of the text is written, or, with
--- status 5, the first bytes of it.
+-- The first lines of the input are done: they reach no limit, and are skipped, or are built events with all of their
+-- lines, which are those of one run of the machine from its start. The ending has its cause in what is left. All of the
+-- text is written, or, with status 5, the first bytes of it.
 pub record Ran (input : List ℕ) (status : ℕ) (written : List ℕ) : Type 0 where
   pub before : List (List ℕ)
   pub left : List (List ℕ)
   pub steps : List Step
   pub ending : Ending
   pub lines : raw_lines input ≡ before ++ left
+  pub within : AreWithin 0 0 before
   pub spelled : AreSteps 1 before steps
   pub whole : AreWhole [] empty_machine steps
+  pub built : AreBuilt empty_machine steps
   pub ended : Ends ending before (moved_all empty_machine steps) left
   pub text : let all = transcript_of steps ++ closing ending (length before + 1) in
       (IsStatusOf ending status × (written ≡ all)) ⊎ ((status ≡ 5) × Begins written all)
+
+-- No line of the input is bad, whatever the run that leads to it, and none reaches a limit.
+abbrev pub IsClean : List ℕ → Type 0
+IsClean input =
+    (before left : List (List ℕ)) → raw_lines input ≡ before ++ left → (limit_of (length before) (sum_by length before) left ≡ None)
+    × ((steps : List Step) → AreSteps 1 before steps → AreWhole [] empty_machine steps → IsBadAt (moved_all empty_machine steps) left → ⊥)

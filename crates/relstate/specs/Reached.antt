@@ -8,7 +8,7 @@ use Rattle.order_machine.specs.Legal.{Step, AreWhole, moved_all}
 use Rattle.order_machine.specs.Lines.{transcript_of}
 use Rattle.world.specs.Kept.{Kept}
 use Rattle.world.specs.World.{StandsFor}
-use Rattle.relstate.specs.Script.{AreSteps}
+use Rattle.relstate.specs.Script.{AreSteps, AreWithin, AreBuilt}
 use Rattle.relstate.specs.Ran.{Ran}
 use Rattle.relstate.specs.declared.lines.WriteError.{WriteError}
 use Rattle.relstate.specs.declared.lines.WriteError.TheVariants.{Failed, NoMemory}
@@ -18,8 +18,10 @@ use Rattle.relstate.specs.declared.lines.WriteError.TheVariants.{Failed, NoMemor
 pub record Done (input held : List ℕ) (before left : List (List ℕ)) (world : Kept) (holds : List ℕ) : Type 0 where
   pub steps : List Step
   pub cut : raw_lines input ≡ before ++ left
+  pub within : AreWithin 0 0 before
   pub spelled : AreSteps 1 before steps
   pub whole : AreWhole [] empty_machine steps
+  pub built : AreBuilt empty_machine steps
   pub stands : StandsFor world (moved_all empty_machine steps)
   pub text : holds ≡ held ++ transcript_of steps
 

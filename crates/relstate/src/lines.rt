@@ -136,23 +136,7 @@ pub fn write_limit<K: Sink>(
     ensures cause { Counted (K.faults sink.old) (K.faults sink.new) (IsErrOf result WriteError.Failed) }
 {
     let mut line = numbered(alloc, number, b" stop 9 ")?;
-    line.extend_from_slice(limit_word(which))?;
+    line.extend_from_slice(which.word().as_bytes())?;
     line.push(b'\n')?;
     write_text(sink, &line)
-}
-
-// The word of a limit.
-fn limit_word(which: LimitName) -> &'static [u8]
-    ensures { result.now ≡ text.limit_text which }
-{
-    match which {
-        LimitName::Lines => b"lines",
-        LimitName::Line => b"line",
-        LimitName::Bytes => b"bytes",
-        LimitName::Names => b"names",
-        LimitName::Epochs => b"epochs",
-        LimitName::Packets => b"packets",
-        LimitName::Lsn => b"lsn",
-        LimitName::Number => b"number",
-    }
 }

@@ -1,9 +1,10 @@
-ghost use Rattle.std.specs.Prelude.{◌≡◌, ◌≢◌, ◌↔◌, ◌++◌, ◌∷◌, [], ◌<◌, ◌≤◌, ◌⊎◌, ℕ, List, map, codes, string_bytes, vec_len, Some, None, IsTrue, IfNone, IfSome, length, ◌+◌};
+ghost use Rattle.std.specs.Prelude.{◌≡◌, ◌≢◌, ◌↔◌, ◌++◌, ◌∷◌, [], ◌<◌, ◌≤◌, ◌⊎◌, ℕ, List, map, codes, string_bytes, vec_len, Some, None, IsTrue, IfNone, IfSome, length, sum_by, ◌+◌};
 ghost use Rattle.std.specs.Vec.{VecUnchanged};
-ghost use Rattle.rc_base.specs.Counts.{Counted};
+ghost use Rattle.rc_base.specs.Counts.{Counted, Rose};
 ghost use Rattle.relstate.specs.Text as text;
-ghost use Rattle.relstate.specs.Ran.{Ran, Begins};
+ghost use Rattle.relstate.specs.Ran.{Ran, Begins, IsClean};
 ghost use Rattle.rc_io.specs.Lines.{line_text};
+ghost use Rattle.rc_io.specs.Limits.{limit_in};
 ghost use Rattle.script_text.specs.Sentence.{Spells, IsBuilt};
 ghost use Rattle.relstate.specs.Reached.{Done, HasEnded, GoesOn, status_of};
 
@@ -50,6 +51,10 @@ pub fn run<S: Source, K: Sink, M: CrashDisk, H: Host>(
     // The transcript is one run of the order machine.
     ensures ran { (input held : List ℕ) → map string_bytes words.now ≡ codes "world" ∷ [] → S.left source.old ≡ Some input → K.holds sink.old ≡ Some held →
         (written : List ℕ) × (K.holds sink.new ≡ Some (held ++ written)) × Ran input result written }
+
+    // An input without a bad line and within the limits is done to its end, where neither the source nor the sink fails.
+    ensures complete { (input held : List ℕ) → map string_bytes words.now ≡ codes "world" ∷ [] → S.left source.old ≡ Some input → K.holds sink.old ≡ Some held →
+        IsClean input → (Rose (S.faults source.old) (S.faults source.new) → ⊥) → (Rose (K.faults sink.old) (K.faults sink.new) → ⊥) → (result ≡ 0) ⊎ (result ≡ 8) }
 
     // A fault is answered only where one came.
     ensures source_fault { Counted (S.faults source.old) (S.faults source.new) (result ≡ 4) }
@@ -150,7 +155,7 @@ fn do_line<K: Sink, M: CrashDisk>(
     requires rising { world.old.last < number }
     requires within { number ≤ 1000000 }
     ensures done { (input held holds : List ℕ) (before left : List (List ℕ)) (raw : List ℕ) → line.now ≡ line_text raw → number ≡ length before + 1 →
-        Done input held before (raw ∷ left) world.old holds → K.holds sink.old ≡ Some holds →
+        limit_in (length before) (sum_by length before) raw ≡ None → Done input held before (raw ∷ left) world.old holds → K.holds sink.old ≡ Some holds →
         GoesOn input held (before ++ raw ∷ []) left world.new (K.holds sink.new) result }
     ensures last { IfNone result (world.new.last ≤ number) }
     ensures status { IfSome result (λ status. (status ≢ 0) × (status ≢ 2) × (status ≢ 4)) }
@@ -179,7 +184,7 @@ fn do_event<K: Sink, M: CrashDisk>(
     requires rising { world.old.last < number }
     requires within { number ≤ 1000000 }
     ensures done { (input held holds : List ℕ) (before left : List (List ℕ)) (raw : List ℕ) → Spells (line_text raw) event.now → number ≡ length before + 1 →
-        Done input held before (raw ∷ left) world.old holds → K.holds sink.old ≡ Some holds →
+        limit_in (length before) (sum_by length before) raw ≡ None → Done input held before (raw ∷ left) world.old holds → K.holds sink.old ≡ Some holds →
         GoesOn input held (before ++ raw ∷ []) left world.new (K.holds sink.new) result }
     ensures last { IfNone result (world.new.last ≡ number) }
     ensures status { IfSome result (λ status. (status ≢ 0) × (status ≢ 2) × (status ≢ 4)) }

@@ -15,16 +15,16 @@ pub returns-in-Err-Unbuilt-clause-done : goal.returns-in-Err-Unbuilt-clause-done
 returns-in-Err-Unbuilt-clause-done g c =
     let S : WorldError → Type 0 = λ e. Serves c.args.world.now c.event.new.self c.args.event.now (Err e) in
     let serves = subst S c.in-Err-Unbuilt.field-0-is c.in-Err-Unbuilt.ensures.serves in
-    λ input held holds before left raw spells at d h.
+    λ input held holds before left raw spells at l d h.
     ends_at_bad_line input held holds before left raw c.args.world.now _ _ c.args.number c.ended.result c.write_bad_line.result d
     (inr (c.args.event.now, spells, serves.1 (moved_all empty_machine d.steps) d.stands)) at h c.write_bad_line.ensures.writes c.ended.ensures
 
 pub returns-in-Ok-write_lines-clause-done : goal.returns-in-Ok-write_lines-clause-done
 returns-in-Ok-write_lines-clause-done g c =
-    λ input held holds before left raw spells at d h. (
+    λ input held holds before left raw spells at l d h. (
       holds ++ lines_text c.args.number c.in-Ok.lines,
       c.in-Ok-write_lines.ensures.writes ∙ ap (λ o. append_known o (lines_text c.args.number c.as_slice.result.now)) h ∙ ap (λ (ls : List Observation). Some (holds ++ lines_text c.args.number ls)) c.as_slice.ensures,
-      after_event input held holds _ before left raw c.args.world.now c.event.new.self c.args.number c.args.event.now c.in-Ok.lines d spells at c.in-Ok.ensures.serves refl,
+      after_event input held holds _ before left raw c.args.world.now c.event.new.self c.args.number c.args.event.now c.in-Ok.lines d l spells at c.in-Ok.ensures.serves refl,
     )
 
 pub returns-in-Err-Failed-clause-done : goal.returns-in-Err-Failed-clause-done
@@ -32,7 +32,7 @@ returns-in-Err-Failed-clause-done g c =
     let text = lines_text c.args.number c.as_slice.result.now in
     let W : WriteError → Type 0 = λ e. Writes {T = Unit {0}} text (g.K.Sink.holds c.args.sink.now) (g.K.Sink.holds c.write_lines.new.sink) (Err e) in
     let wrote = subst W c.in-Err-Failed.field-0-is c.in-Err-Failed.ensures.writes in
-    λ input held holds before left raw spells at d h.
-    event_cut_off input held holds before left raw c.args.world.now c.event.new.self _ c.args.number c.args.event.now c.as_slice.result.now wrote.0 d spells at
+    λ input held holds before left raw spells at l d h.
+    event_cut_off input held holds before left raw c.args.world.now c.event.new.self _ c.args.number c.args.event.now c.as_slice.result.now wrote.0 d l spells at
     (subst (λ (ls : List Observation). Serves c.args.world.now c.event.new.self c.args.event.now (Ok ls)) (sym c.as_slice.ensures) c.in-Ok.ensures.serves)
     (wrote.1 ∙ ap (λ o. append_known o (take wrote.0 text)) h)

@@ -5,6 +5,7 @@ use Rattle.relstate.specs.Text.{usage}
 use Rattle.relstate.specs.Reached.{Writes}
 use Rattle.relstate.specs.declared.lines.WriteError.{WriteError}
 use Rattle.relstate.specs.declared.lines.WriteError.TheVariants.{Failed, NoMemory}
+use Rattle.relstate.proofs.Reach.{complete}
 use Rattle.relstate.proofs.run.run.Goals as goal
 
 abbrev five : ℕ
@@ -21,3 +22,8 @@ cut_off NoMemory old new held w m h = absurd (m refl)
 
 pub returns-in-Err-clause-usage_text : goal.returns-in-Err-clause-usage_text
 returns-in-Err-clause-usage_text g c = λ held words h. cut_off c.in-Err.field-0 _ _ held c.in-Err.ensures.writes (λ q. c.in-Err.ensures.memory (ap Err q)) h
+
+pub returns-then-is_world-clause-complete : goal.returns-then-is_world-clause-complete
+returns-then-is_world-clause-complete g c = λ input held words told holds clean source sink.
+    let ended = c.run_world.ensures.ran input held told holds in
+    complete input c.run_world.result ended.0 ended.2 clean (λ four. source (c.run_world.ensures.source_fault.rose four)) (λ five. sink (c.run_world.ensures.sink_fault.rose five))

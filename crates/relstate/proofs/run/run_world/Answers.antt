@@ -2,7 +2,7 @@ use Rattle.std.proofs.Common.{◌∙◌, sym, ap, ◌+◌, ◌++◌, length, sum
 use Rattle.rc_io.specs.Lines.{raw_lines}
 use Rattle.rc_io.specs.Limits.{limit_of}
 use Rattle.relstate.specs.Ran.{AtEnd, CutShort}
-use Rattle.relstate.proofs.Reach.{nothing_done, at_line, next_reached, ends_at_limit, stops}
+use Rattle.relstate.proofs.Reach.{nothing_done, at_line, line_within, next_reached, ends_at_limit, stops}
 use Rattle.relstate.proofs.run.run_world.Goals as goal
 
 pub returns-in_default-clause-ran : goal.returns-in_default-clause-ran
@@ -20,6 +20,7 @@ returns-in-Some-clause-ran g c = λ input held l h.
     c.in-Some.ensures.done input held at.1 r.before (raw_lines (c.next.new.self.ahead ++ told.0)) told.2.raw
     (c.as_slice.ensures ∙ told.2.text_is)
     (n.0 ∙ ap (λ k. k + 1) (sym r.counted))
+    (line_within input held _ _ at.1 _ _ c.loop-number.world _ r told.2)
     (at_line input held _ _ at.1 _ _ c.loop-number.world _ r told.2) at.3
 
 pub loop-number-preserved : goal.loop-number-preserved
@@ -39,6 +40,7 @@ loop-number-preserved g c =
           let went = done.done input held at.1 r.before (raw_lines (c.next.new.self.ahead ++ told.0)) told.2.raw
           (c.as_slice.ensures ∙ told.2.text_is)
           (n.0 ∙ ap (λ k. k + 1) (sym r.counted))
+          (line_within input held _ _ at.1 _ _ c.loop-number.world _ r told.2)
           (at_line input held _ _ at.1 _ _ c.loop-number.world _ r told.2) at.3 in
           (told.0, went.0, told.1, went.1, next_reached input held _ _ at.1 went.0 _ _ c.loop-number.world c.do_line.new.world _ r told.2 (n.1 ∙ n.0) went.2);
     }
