@@ -80,6 +80,23 @@ fn lines_of_answers(rt: HostRuntime) -> Result<(), Fail> {
 }
 
 #[test]
+fn lines_of_calls(rt: HostRuntime) -> Result<(), Fail> {
+    let made = line(rt.alloc(), Observation::True)?;
+    assert_eq!(rt; made.as_slice(), b"1000000 true".as_slice());
+    let kept = line(rt.alloc(), Observation::False)?;
+    assert_eq!(rt; kept.as_slice(), b"1000000 false".as_slice());
+    let found = line(rt.alloc(), Observation::Value(value(rt.alloc())?))?;
+    assert_eq!(rt; found.as_slice(), b"1000000 value v".as_slice());
+    let missing = line(rt.alloc(), Observation::Missing)?;
+    assert_eq!(rt; missing.as_slice(), b"1000000 none".as_slice());
+    let absent = line(rt.alloc(), Observation::Absent)?;
+    assert_eq!(rt; absent.as_slice(), b"1000000 absent".as_slice());
+    let other = line(rt.alloc(), Observation::WrongKind)?;
+    assert_eq!(rt; other.as_slice(), b"1000000 wrongkind".as_slice());
+    Ok(())
+}
+
+#[test]
 fn lines_of_the_order(rt: HostRuntime) -> Result<(), Fail> {
     let bare = line(rt.alloc(), Observation::Order(txn(1), Ops::new(rt.alloc())))?;
     assert_eq!(rt; bare.as_slice(), b"1000000 order 0.1.1".as_slice());

@@ -50,12 +50,7 @@ fn get(found: Option<&Contents>, key: &Bytes) -> Result<Reply, NoMemory>
     }
 }
 
-fn set(
-    found: Option<&Contents>,
-    name: &Name,
-    key: &Bytes,
-    value: &Bytes,
-) -> Result<Reply, NoMemory>
+fn set(found: Option<&Contents>, name: &Name, key: &Bytes, value: &Bytes) -> Result<Reply, NoMemory>
     ensures { IfOk result (λ reply. reply ≡ answers.set_reply name.now key.now value.now (option_copied found.entry)) }
 {
     match found {

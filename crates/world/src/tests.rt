@@ -45,7 +45,11 @@ fn keys_and_values_of_any_bytes(rt: HostRuntime) -> Result<(), Fail> {
     let key = || Bytes::from_slice(alloc, &[0, 10, 32, 58, 255]);
     world.event(&mut disks, 1, &boot(alloc)?)?;
     world.event(&mut disks, 2, &client(Call::Begin)?)?;
-    world.event(&mut disks, 3, &client(Call::Make(txn(1), name()?, Kind::Dict))?)?;
+    world.event(
+        &mut disks,
+        3,
+        &client(Call::Make(txn(1), name()?, Kind::Dict))?,
+    )?;
     world.event(
         &mut disks,
         4,

@@ -208,11 +208,7 @@ impl World {
     }
 
     // An event that is answered and changes nothing.
-    fn answered(
-        &mut self,
-        number: u64,
-        answer: Observation,
-    ) -> Result<Observations, WorldError>
+    fn answered(&mut self, number: u64, answer: Observation) -> Result<Observations, WorldError>
         requires rising { self.old.last < number }
         requires within { number ≤ 1000000 }
         ensures lines { IfOk result (λ lines. lines ≡ answer ∷ []) }
