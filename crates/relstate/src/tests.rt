@@ -116,16 +116,16 @@ fn one_transaction_behind_another(rt: HostRuntime) -> Result<(), Fail> {
     Ok(())
 }
 
-// A script whose one `get` has a key of this many letters.
+// A script whose one `set` has a key of this many letters.
 fn with_key(alloc: Global, letters: usize) -> Result<Vec<u8>, AllocError> {
     let mut script = Vec::from_slice(
         alloc,
-        b"boot 0 0\nbegin 0\nmake 0 0.1.1 d dict\nget 0 0.1.1 d ",
+        b"boot 0 0\nbegin 0\nmake 0 0.1.1 d dict\nset 0 0.1.1 d ",
     )?;
     for _ in 0..letters {
         script.push(b'k')?;
     }
-    script.push(b'\n')?;
+    script.extend_from_slice(b" v\n")?;
     Ok(script)
 }
 
@@ -136,7 +136,7 @@ fn longest_key(rt: HostRuntime) -> Result<(), Fail> {
     assert_eq!(rt; status, 0);
     assert_eq!(rt;
         text.as_slice(),
-        b"1 up 0\n1 view 0 0\n1 active 0\n1 ok\n2 txn 0.1.1\n3 true\n4 none\n".as_slice()
+        b"1 up 0\n1 view 0 0\n1 active 0\n1 ok\n2 txn 0.1.1\n3 true\n4 ok\n".as_slice()
     );
     let (status, text) = answered(alloc, &with_key(alloc, 129)?)?;
     assert_eq!(rt; status, 3);
@@ -199,7 +199,7 @@ fn bad_lines(rt: HostRuntime) -> Result<(), Fail> {
 fn faults(rt: HostRuntime) -> Result<(), Fail> {
     let alloc = rt.alloc();
     // The sink takes 20 bytes and then fails.
-    let (status, text) = ran(alloc, b"boot 0 0\nbegin 0\n", Some(20), Vec::new(alloc))?;
+    let (status, text) = ran(alloc, ONE_TRANSACTION, Some(20), Vec::new(alloc))?;
     assert_eq!(rt; status, 5);
     assert_eq!(rt; text.as_slice(), b"1 up 0\n1 view 0 0\n1 ".as_slice());
     // The source fails at its first read.
