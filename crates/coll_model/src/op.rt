@@ -4,7 +4,7 @@ use rc_base::{Bytes, Name};
 use std::alloc::AllocError;
 
 /// What a collection is.
-#[derive(Clone, Copy, Debug, PartialEq, Eq)]
+#[derive(Clone, Copy, Debug, PartialEq, Eq, PartialOrd, Ord)]
 pub enum Kind {
     /// A dictionary from keys to values.
     Dict,
@@ -13,7 +13,7 @@ pub enum Kind {
 }
 
 /// An operation on the collections. It is total: one that finds no collection of its name and kind changes nothing.
-#[derive(Debug, Drop, PartialEq, Eq)]
+#[derive(Debug, Drop, PartialEq, Eq, PartialOrd, Ord)]
 pub enum Op {
     /// A new, empty collection of the kind, where the name is absent.
     Make(Name, Kind),

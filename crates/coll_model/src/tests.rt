@@ -68,3 +68,63 @@ fn a_queue(rt: HostRuntime) -> Result<(), Fail> {
     }
     Ok(())
 }
+
+// A state with one dictionary that has one pair.
+fn with_pair(alloc: Global, dict: &[u8], key: &[u8], value: &[u8]) -> Result<State, Fail> {
+    let mut state = State::empty(alloc);
+    state.apply(&Op::Make(name(alloc, dict)?, Kind::Dict))?;
+    state.apply(&Op::Put(name(alloc, dict)?, bytes(alloc, key)?, bytes(alloc, value)?))?;
+    Ok(state)
+}
+
+// A state with one queue that has the values.
+fn with_values(alloc: Global, queue: &[u8], values: &[&[u8]]) -> Result<State, Fail> {
+    let mut state = State::empty(alloc);
+    state.apply(&Op::Make(name(alloc, queue)?, Kind::Queue))?;
+    for value in values {
+        state.apply(&Op::Push(name(alloc, queue)?, bytes(alloc, value)?))?;
+    }
+    Ok(state)
+}
+
+#[test]
+fn states_are_compared(rt: HostRuntime) -> Result<(), Fail> {
+    let alloc = rt.alloc();
+    let rising = [
+        State::empty(alloc),
+        with_pair(alloc, b"a", b"j", b"w")?,
+        with_pair(alloc, b"a", b"k", b"v")?,
+        with_pair(alloc, b"a", b"k", b"w")?,
+        with_values(alloc, b"a", &[])?,
+        with_values(alloc, b"a", &[b"1"])?,
+        with_values(alloc, b"a", &[b"1", b"2"])?,
+        with_values(alloc, b"a", &[b"2"])?,
+        with_pair(alloc, b"b", b"j", b"v")?,
+    ];
+    for pair in rising.windows(2) {
+        assert!(rt; pair[0] < pair[1] && pair[0] != pair[1]);
+        assert!(rt; pair[0] == pair[0].clone()?);
+    }
+    Ok(())
+}
+
+// The value comes to a key of a dictionary.
+fn put(alloc: Global, value: &[u8]) -> Result<Op, AllocError> {
+    Ok(Op::Put(
+        name(alloc, b"a")?,
+        bytes(alloc, b"k")?,
+        bytes(alloc, value)?,
+    ))
+}
+
+#[test]
+fn operations_are_compared(rt: HostRuntime) -> Result<(), Fail> {
+    let alloc = rt.alloc();
+    let unmake = Op::Unmake(name(alloc, b"z")?);
+    let (lower, higher) = (put(alloc, b"v")?, put(alloc, b"w")?);
+    assert!(rt; unmake < lower);
+    assert!(rt; lower < higher);
+    assert!(rt; lower != higher);
+    assert!(rt; Kind::Dict < Kind::Queue);
+    Ok(())
+}

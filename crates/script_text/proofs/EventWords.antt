@@ -1,13 +1,9 @@
 -- What stands in the words of each event, and that the words tell the event.
-use Rattle.std.proofs.Common.{◌≡◌, ℕ, ◌<◌, List, [], ◌∷◌, length, get_or, take, drop, suc, ◌-◌, decimal, Bool, true, false, ◌&&◌, ◌≤◌, eqb, leb, refl, sym, ap, subst, ◌∙◌, arith, rules, lit<}
+use Rattle.std.proofs.Common.{◌≡◌, ℕ, ◌<◌, List, [], ◌∷◌, length, decimal, Bool, true, false, ◌&&◌, eqb, leb, refl, sym, ap, subst, ◌∙◌, arith, rules, lit<}
 use Rattle.std.specs.Prelude.{IsTrue}
 use Rattle.std.proofs.lemmas.Fmt.{decimal_injective}
-use Rattle.std.specs.Borrow.{Bor}
 use Rattle.std.specs.List.{slice_split, list_all}
-use Rattle.std.specs.Str.{bytes_eq}
 use Rattle.std.proofs.lemmas.Bool.{ne_eqb, false≢true}
-use Rattle.std.proofs.lemmas.List.{take_all}
-use Rattle.std.proofs.lemmas.Slice.Eq.{bytes_eq-Decides}
 use Rattle.rc_base.specs.declared.ids.TxnId.{TxnId}
 use Rattle.rc_base.specs.Names.{is_name_letter, is_name}
 use Rattle.coll_model.specs.declared.op.Kind.{Kind}
@@ -18,7 +14,7 @@ use Rattle.script_text.specs.declared.event.Call.{Call}
 use Rattle.script_text.specs.declared.event.Call.TheVariants as calls
 use Rattle.script_text.specs.Letters.{is_key_letter, is_key_word, is_value_word}
 use Rattle.script_text.specs.Sentence.{words_at, words_of, txn_text, kind_text, members_text, IsTxn, IsBuiltTxn, IsBuiltCall, IsBuilt, Spells}
-use Rattle.script_text.specs.Reading.{texts, txn_parts, IsSentence}
+use Rattle.script_text.specs.Reading.{txn_parts, IsSentence}
 use Rattle.script_text.proofs.Numbers.{Lacks, Lacks-decimal}
 use Rattle.script_text.proofs.Parts.{AllLack, Lacks-joined, joined_from_parts, parts_from_joined}
 

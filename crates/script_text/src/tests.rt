@@ -1,28 +1,12 @@
 use super::*;
 use coll_model::Kind;
 use rc_base::TxnId;
-use std::alloc::{AllocError, Global};
+use std::alloc::Global;
 use std::test::*;
 
 // Whether it is transaction 0.1.1.
 fn is_first(t: &TxnId) -> bool {
     (t.epoch.loss, t.epoch.number, t.n) == (0, 1, 1)
-}
-
-// A line: a text, a letter so many times, and another text.
-fn line_of(
-    alloc: Global,
-    front: &str,
-    letter: &str,
-    count: usize,
-    back: &str,
-) -> Result<Vec<u8>, AllocError> {
-    let mut line = Vec::from_slice(alloc, front.as_bytes())?;
-    for _ in 0..count {
-        line.extend_from_slice(letter.as_bytes())?;
-    }
-    line.extend_from_slice(back.as_bytes())?;
-    Ok(line)
 }
 
 #[test]
@@ -61,29 +45,37 @@ fn calls_in_a_dictionary(rt: HostRuntime) -> Result<(), Fail> {
     Ok(())
 }
 
-// Whether a line is read as an event, and whether it is a bad line with one letter more.
-fn is_longest(
+// Whether the line of a text, a letter so many times and another text is a sentence.
+fn is_sentence(
     alloc: Global,
     front: &str,
     letter: &str,
-    count: usize,
+    count: u32,
     back: &str,
-) -> Result<bool, AllocError> {
-    let longest = line_of(alloc, front, letter, count, back)?;
-    let longer = line_of(alloc, front, letter, count + 1, back)?;
-    let taken = matches!(read_event(alloc, &longest), Ok(Some(Event::Client(_, _))));
-    let refused = matches!(read_event(alloc, &longer), Err(ScriptError::BadLine));
-    Ok(taken && refused)
+) -> Result<bool, ScriptError> {
+    let mut line = Vec::from_slice(alloc, front.as_bytes())?;
+    for _turn in 0..count {
+        line.extend_from_slice(letter.as_bytes())?;
+    }
+    line.extend_from_slice(back.as_bytes())?;
+    match read_event(alloc, &line) {
+        Ok(read) => Ok(read.is_some()),
+        Err(ScriptError::BadLine) => Ok(false),
+        Err(e) => Err(e),
+    }
 }
 
 #[test]
 fn longest_words(rt: HostRuntime) -> Result<(), Fail> {
     let alloc = rt.alloc();
-    assert!(rt; is_longest(alloc, "make 0 0.1.1 ", "n", 64, " dict")?);
-    assert!(rt; is_longest(alloc, "get 0 0.1.1 ", "n", 64, " k")?);
-    assert!(rt; is_longest(alloc, "get 0 0.1.1 d ", "k", 128, "")?);
-    assert!(rt; is_longest(alloc, "set 0 0.1.1 d ", "k", 128, " v")?);
-    assert!(rt; is_longest(alloc, "set 0 0.1.1 d k ", "v", 1024, "")?);
+    assert!(rt; is_sentence(alloc, "make 0 0.1.1 ", "n", 64, " dict")?);
+    assert!(rt; !is_sentence(alloc, "make 0 0.1.1 ", "n", 65, " dict")?);
+    assert!(rt; is_sentence(alloc, "get 0 0.1.1 d ", "k", 128, "")?);
+    assert!(rt; !is_sentence(alloc, "get 0 0.1.1 d ", "k", 129, "")?);
+    assert!(rt; is_sentence(alloc, "set 0 0.1.1 d ", "k", 128, " v")?);
+    assert!(rt; !is_sentence(alloc, "set 0 0.1.1 d ", "k", 129, " v")?);
+    assert!(rt; is_sentence(alloc, "set 0 0.1.1 d k ", "v", 1024, "")?);
+    assert!(rt; !is_sentence(alloc, "set 0 0.1.1 d k ", "v", 1025, "")?);
     Ok(())
 }
 
