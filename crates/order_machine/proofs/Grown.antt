@@ -1,5 +1,5 @@
 -- Each line leaves the orders as they are, or adds an entry to one.
-use Rattle.std.proofs.Common.{◌≡◌, ◌∙◌, ℕ, true, false, ◌&&◌, List, [], ◌∷◌, ◌++◌, get_or, set, length, append-nil, append_assoc, Option, Some, None, refl, sym, ap, inl, inr}
+use Rattle.std.proofs.Common.{◌≡◌, ◌∙◌, ℕ, true, false, ◌&&◌, List, [], ◌∷◌, ◌++◌, get_or, set, drop, length, append-nil, append_assoc, Option, Some, None, refl, sym, ap, inl, inr}
 use Rattle.std.specs.Prelude.{is_some, option_and_then}
 use Rattle.std.specs.Option.{option_map_or}
 use Rattle.std.proofs.lemmas.Bool.{cond_both, cases_lt, cases_eq}
@@ -7,14 +7,14 @@ use Rattle.std.proofs.lemmas.List.{get_or-set_same, get_or-set_other, set_past}
 use Rattle.rc_base.specs.declared.ids.TxnId.{TxnId}
 use Rattle.coll_model.specs.declared.op.Op.{Op}
 use Rattle.script_text.specs.declared.event.Event.{Event}
-use Rattle.script_text.specs.declared.event.Event.TheVariants.{Boot, Client}
+use Rattle.script_text.specs.declared.event.Event.TheVariants.{Boot, Client, Arm, Crash, Reboot, Inspect}
 use Rattle.script_text.specs.declared.event.Call.{Call}
 use Rattle.script_text.specs.declared.event.Call.TheVariants.{Begin, Make, Get, Set, Commit}
 use Rattle.order_machine.specs.declared.observation.Observation.{Observation}
 use Rattle.order_machine.specs.declared.observation.Observation.TheVariants as says
 use Rattle.order_machine.specs.declared.reply.Reply.{Reply}
 use Rattle.order_machine.specs.Order.{Entry, Order, empty_order}
-use Rattle.order_machine.specs.Machine.{Machine, Role, Txn, replica, put_role, put_txn, role_of, txn_of, order_of, is_active, is_live}
+use Rattle.order_machine.specs.Machine.{Machine, Role, Txn, replica, put_role, put_txn, role_of, txn_of, order_of, is_active, is_live, closed}
 use Rattle.order_machine.specs.Answers.{answered_at, begun_by, noted, txn_named}
 use Rattle.order_machine.specs.Rows.{Position, event_primary, first_epoch, opened, asking, answering, answered_by, after, ordering, showing, with_first_role, new_role, now_active, activated}
 use Rattle.order_machine.specs.Legal.{Filter, Step, behind, IsBegun, moved, IsLegal, moved_all}
@@ -38,6 +38,10 @@ same_first_role : (m : Machine) (event : Event) (mounts : List ℕ) → (with_fi
 same_first_role m (Boot p members) [] = cond_both (replica m p).up (put_role m p (Some (new_role first_epoch))) m (λ x. x.orders ≡ m.orders) (λ _. refl) (λ _. refl)
 same_first_role m (Boot p members) (q ∷ mounts) = refl
 same_first_role m (Client r call) mounts = refl
+same_first_role m (Arm r calls) mounts = refl
+same_first_role m (Crash r pick) mounts = refl
+same_first_role m (Reboot r) mounts = refl
+same_first_role m (Inspect r) mounts = refl
 
 same_noted : (m : Machine) (f : Txn → Txn) (t : TxnId) (o : Option Txn) → (option_map_or (λ x. put_txn m t (f x)) o m).orders ≡ m.orders
 same_noted m f t None = refl
@@ -65,6 +69,10 @@ same_begun m r (says.Value value) = refl
 same_begun m r says.Missing = refl
 same_begun m r says.Absent = refl
 same_begun m r says.WrongKind = refl
+same_begun m r (says.Fault q) = refl
+same_begun m r says.IgnoredUp = refl
+same_begun m r (says.State q n) = refl
+same_begun m r (says.Rows words) = refl
 
 same_answered_at : (m : Machine) (r : ℕ) (call : Call) (reply : Reply) (named : Option TxnId) → (option_map_or (λ t. noted m t (record { call = call; answer = reply.answer; op = reply.op })) named (begun_by m r reply.answer)).orders ≡ m.orders
 same_answered_at m r call reply None = same_begun m r reply.answer
@@ -72,6 +80,10 @@ same_answered_at m r call reply (Some t) = same_noted m (λ x. record x { calls 
 
 same_answered : (m : Machine) (event : Event) (reply : Reply) → (answered_by m event reply).orders ≡ m.orders
 same_answered m (Boot p members) reply = refl
+same_answered m (Arm r calls) reply = refl
+same_answered m (Crash r pick) reply = refl
+same_answered m (Reboot r) reply = refl
+same_answered m (Inspect r) reply = refl
 same_answered m (Client r call) reply = same_answered_at m r call reply (txn_named call)
 
 grow_ordering : (m : Machine) (r : ℕ) (t : TxnId) (ops : List Op) → OrdersGrow m (ordering m r t ops)
@@ -94,7 +106,7 @@ grow_answer p o = grow_same p.machine (answering p o).machine (same_answered p.m
 grow_line : (p : Position) (o : Observation) → OrdersGrow p.machine (after p o).machine
 grow_line p (says.Order t ops) = grow_ordering p.machine (event_primary p.event) t ops
 grow_line p (says.View r n) = grow_same p.machine (after p (says.View r n)).machine
-    (cond_both (is_some p.opening) (record p { machine = with_first_role (showing p.machine r n) p.event p.mounts; opening = None }) (record p { machine = showing p.machine r n; growing = false }) (λ q. q.machine.orders ≡ p.machine.orders) (λ _. same_first_role (showing p.machine r n) p.event p.mounts) (λ _. refl))
+    (cond_both (is_some p.opening) (record p { machine = with_first_role (showing p.machine r n) p.event p.mounts; opening = None }) (record p { machine = showing p.machine r n; growing = false; rose = r ∷ p.rose }) (λ q. q.machine.orders ≡ p.machine.orders) (λ _. same_first_role (showing p.machine r n) p.event p.mounts) (λ _. refl))
 grow_line p (says.Active r) = grow_same p.machine (now_active p.machine r) (same_active p.machine r (role_of p.machine r))
 grow_line p (says.Up r) = grow_same p.machine (after p (says.Up r)).machine refl
 grow_line p (says.Committed t) = grow_same p.machine (after p (says.Committed t)).machine refl
@@ -110,6 +122,10 @@ grow_line p (says.Value value) = grow_answer p (says.Value value)
 grow_line p says.Missing = grow_answer p says.Missing
 grow_line p says.Absent = grow_answer p says.Absent
 grow_line p says.WrongKind = grow_answer p says.WrongKind
+grow_line p (says.Fault r) = grow_same p.machine (after p (says.Fault r)).machine (same_first_role (closed p.machine r) p.event (drop 1 p.mounts))
+grow_line p says.IgnoredUp = grow_answer p says.IgnoredUp
+grow_line p (says.State r n) = grow_same p.machine p.machine refl
+grow_line p (says.Rows words) = grow_same p.machine p.machine refl
 
 -- ---- events and runs
 
@@ -124,6 +140,10 @@ same_asking m r (Commit t) =
 grow_opened : (m : Machine) (event : Event) → OrdersGrow m (opened m event).machine
 grow_opened m (Boot p members) = grow_same m (opened m (Boot p members)).machine refl
 grow_opened m (Client r call) = grow_same m (asking m r call) (same_asking m r call)
+grow_opened m (Arm r calls) = grow_same m m refl
+grow_opened m (Crash r pick) = grow_same m (closed m r) refl
+grow_opened m (Reboot r) = grow_same m m refl
+grow_opened m (Inspect r) = grow_same m m refl
 
 grow_lines : (p : Position) (lines : List Observation) → OrdersGrow p.machine (behind p lines).machine
 grow_lines p [] = grow_same p.machine p.machine refl

@@ -1,10 +1,10 @@
 -- What every machine of a legal run keeps, and that each change of a line keeps it.
-use Rattle.std.proofs.Common.{◌≡◌, ◌∙◌, ℕ, zero, suc, ◌+◌, ◌-◌, ◌≤◌, Bool, true, false, List, [], ◌∷◌, ◌++◌, map, set, get_or, replicate, Option, Some, None, cond, refl, sym, ap, subst, inl, inr, le_of_eq, append-nil, arith, filter_map}
+use Rattle.std.proofs.Common.{◌≡◌, ◌∙◌, ℕ, zero, suc, ◌+◌, ◌-◌, ◌≤◌, Bool, true, false, List, [], ◌∷◌, ◌++◌, map, set, get_or, replicate, Option, Some, None, cond, refl, sym, ap, subst, inl, inr, le_of_eq, append-nil, arith, filter_map, eqb}
 use Rattle.std.specs.Prelude.{find, option_map}
 use Rattle.std.specs.List.{list_any, AllByRecursion, IsDistinct, cons_option}
 use Rattle.std.specs.Option.{option_map_or}
 use Rattle.std.specs.Map.{lookup}
-use Rattle.std.proofs.lemmas.Bool.{false≢true, or_cases, or_left, cases_Bool, cond-true, cond-false, cases_lt, false_from_ne_true}
+use Rattle.std.proofs.lemmas.Bool.{false≢true, or_cases, or_left, cases_Bool, cond-true, cond-false, cond_both, cases_lt, false_from_ne_true}
 use Rattle.std.proofs.lemmas.Option.{none-some, same_Some}
 use Rattle.std.proofs.lemmas.List.{length-append, map_push, get_or-replicate, get_or_past, length-replicate}
 use Rattle.std.proofs.lemmas.List.Elements.{filter_map-append}
@@ -15,7 +15,7 @@ use Rattle.rc_base.specs.declared.ids.TxnId.{TxnId}
 use Rattle.coll_model.specs.declared.op.Op.{Op}
 use Rattle.order_machine.specs.Ids.{is_epoch, is_txn, epoch_le}
 use Rattle.order_machine.specs.Order.{Entry, Order, empty_order, length_of, first_of, holds}
-use Rattle.order_machine.specs.Machine.{Machine, Replica, Role, Txn, Noted, Appointment, never_opened, empty_machine, replica, put_replica, order_of, role_of, txn_of, put_txn, is_shown, is_acknowledged, ops_of}
+use Rattle.order_machine.specs.Machine.{Machine, Replica, Role, Txn, Noted, Appointment, never_opened, empty_machine, replica, put_replica, order_of, role_of, txn_of, put_txn, is_shown, is_acknowledged, ops_of, ended_at, closed}
 use Rattle.order_machine.specs.Answers.{noted, begun, new_txn, one_more_begun}
 use Rattle.order_machine.specs.Laws.{IsAsked, entries_of}
 use Rattle.order_machine.specs.Rows.{ordering, acknowledging, activated, noting_active, showing}
@@ -261,6 +261,74 @@ kept_noted m k t call logs = noting (txn_of m t) refl
     noting : (o : Option Txn) → txn_of m t ≡ o → Kept (option_map_or (λ x. put_txn m t (record x { calls = x.calls ++ call ∷ [] })) o m)
     noting None known = k
     noting (Some x) known = kept_put_known m k t x (record x { calls = x.calls ++ call ∷ [] }) known (λ asked. (asked, same_ops x (logs x known asked))) (k.unasked t x known)
+
+-- ---- a replica is closed
+
+-- what is known of a transaction once nothing goes on at r
+abbrev ended : ℕ → Txn → Txn
+ended r x = cond (eqb x.home r) (record x { live = false }) x
+
+lookup_ended : (r : ℕ) (txns : List (TxnId × Txn)) (t : TxnId) → lookup (is_txn t) (ended_at r txns) ≡ option_map (ended r) (lookup (is_txn t) txns)
+lookup_ended r [] t = refl
+lookup_ended r (entry ∷ txns) t =
+    elim (cases_Bool (is_txn t entry.0)) [
+      | inl same ↦ cond-true (is_txn t entry.0) (Some (ended r entry.1)) (lookup (is_txn t) (ended_at r txns)) same ∙ sym (ap (option_map (ended r)) (cond-true (is_txn t entry.0) (Some entry.1) (lookup (is_txn t) txns) same))
+      | inr other ↦ cond-false (is_txn t entry.0) (Some (ended r entry.1)) (lookup (is_txn t) (ended_at r txns)) other ∙ (lookup_ended r txns t ∙ sym (ap (option_map (ended r)) (cond-false (is_txn t entry.0) (Some entry.1) (lookup (is_txn t) txns) other)))
+    ]
+
+-- a transaction that is known then was known before
+pub known_before : (r : ℕ) (txns : List (TxnId × Txn)) (t : TxnId) (y : Txn) → lookup (is_txn t) (ended_at r txns) ≡ Some y → (x : Txn) × (lookup (is_txn t) txns ≡ Some x) × (ended r x ≡ y)
+known_before r txns t y known = before (lookup (is_txn t) txns) refl
+  where
+    before : (o : Option Txn) → lookup (is_txn t) txns ≡ o → (x : Txn) × (lookup (is_txn t) txns ≡ Some x) × (ended r x ≡ y)
+    before None e = absurd (none-some y (sym (lookup_ended r txns t ∙ ap (option_map (ended r)) e) ∙ known))
+    before (Some x) e = (x, e, same_Some (ended r x) y (sym (lookup_ended r txns t ∙ ap (option_map (ended r)) e) ∙ known))
+
+pub ended_asked : (r : ℕ) (x : Txn) → (ended r x).asked ≡ x.asked
+ended_asked r x = cond_both (eqb x.home r) (record x { live = false }) x (λ y. y.asked ≡ x.asked) (λ _. refl) (λ _. refl)
+
+ended_ops : (r : ℕ) (x : Txn) → ops_of (ended r x) ≡ ops_of x
+ended_ops r x = cond_both (eqb x.home r) (record x { live = false }) x (λ y. ops_of y ≡ ops_of x) (λ _. refl) (λ _. refl)
+
+ended_live : (r : ℕ) (x : Txn) → (ended r x).live ≡ true → x.live ≡ true
+ended_live r x = cond_both (eqb x.home r) (record x { live = false }) x (λ y. y.live ≡ true → x.live ≡ true) (λ _ h. absurd (false≢true h)) (λ _ h. h)
+
+asked_ended : (r : ℕ) (txns : List (TxnId × Txn)) (e : Entry) → IsAskedIn txns e → IsAskedIn (ended_at r txns) e
+asked_ended r txns e k = record {
+  txn = ended r k.txn;
+  known = lookup_ended r txns e.txn ∙ ap (option_map (ended r)) k.known;
+  asked = ended_asked r k.txn ∙ k.asked;
+  whole = k.whole ∙ sym (ended_ops r k.txn);
+}
+
+role_ended : (q : ℕ) {order : Order} {acknowledged : List TxnId} (txns : List (TxnId × Txn)) {appointments : List Appointment} {r show : ℕ} (role : Role) → OfRole order acknowledged txns appointments r show role → OfRole order acknowledged (ended_at q txns) appointments r show role
+role_ended q txns role k = record {
+  appointment = k.appointment;
+  appointed = k.appointed;
+  primary = k.primary;
+  counted = λ t y epoch known. let x = known_before q txns t y known in k.counted t x.0 epoch x.1;
+  shows = k.shows;
+}
+
+pub kept_closed : (m : Machine) (k : Kept m) (r : ℕ) → Kept (closed m r)
+kept_closed m k r =
+    let later = ended_at r m.txns in
+    record {
+      order = k.order;
+      one = k.one;
+      replicas = at_each (OfReplica k.order m.acknowledged later m.appointments) m.replicas r (record (replica m r) { up = false; role = None }) never_opened
+          (λ q. record {
+            loss = (k.replicas q).loss;
+            within = (k.replicas q).within;
+            role = λ role e. role_ended r m.txns role ((k.replicas q).role role e);
+          })
+          (record { loss = (k.replicas r).loss; within = (k.replicas r).within; role = λ role e. absurd (none-some role e) });
+      held = k.held;
+      once = k.once;
+      asked = AllByRecursion-weaker (IsAskedIn m.txns) (IsAskedIn later) k.order.entries (asked_ended r m.txns) k.asked;
+      unbooted = λ e. ap (ended_at r) (k.unbooted e);
+      unasked = λ t y known live. let x = known_before r m.txns t y known in sym (ap (λ z. z.asked) x.2) ∙ (ended_asked r x.0 ∙ k.unasked t x.0 x.1 (ended_live r x.0 (ap (λ z. z.live) x.2 ∙ live)));
+    }
 
 -- ---- a transaction begins
 

@@ -46,12 +46,13 @@ booted = moved empty_machine (Boot 0 (0 ∷ [])) boot_lines
 whole_boot : IsWhole empty_machine (Boot 0 (0 ∷ [])) boot_lines
 whole_boot = record {
   may = (
-    record { named = refl; in_rank = refl; next = refl; row = (refl, ([], refl)) },
+    record { named = refl; in_rank = refl; next = refl; goes_on = refl; row = (refl, ([], refl)) },
     (
       record {
         named = refl;
         in_rank = refl;
         next = refl;
+            goes_on = refl;
         row = record {
           within = omega arith;
           all_that_grew = λ e. absurd (false≢true e);
@@ -65,6 +66,7 @@ whole_boot = record {
           named = refl;
           in_rank = refl;
           next = refl;
+            goes_on = refl;
           row = record {
             role = new_role first_epoch;
             has = refl;
@@ -74,13 +76,13 @@ whole_boot = record {
           };
         },
         (
-          record { named = refl; in_rank = refl; next = refl; row = (refl, refl, refl) },
+          record { named = refl; in_rank = refl; next = refl; goes_on = refl; row = (refl, refl, refl) },
           tt,
         ),
       ),
     ),
   );
-  complete = record { opened = refl; grown = refl; mounted = refl; answered = refl };
+  complete = record { opened = refl; grown = refl; mounted = refl; told = refl; answered = refl };
   holds = holds_behind booted (replica booted 0) refl refl (λ r t. refl);
 }
 
@@ -99,8 +101,8 @@ not_asked false r rest = refl
 
 whole_begin : IsWhole booted (Client 0 Begin) (says.Txn first_txn ∷ [])
 whole_begin = record {
-  may = (record { named = refl; in_rank = refl; next = refl; row = (refl, refl) }, tt);
-  complete = record { opened = refl; grown = refl; mounted = refl; answered = refl };
+  may = (record { named = refl; in_rank = refl; next = refl; goes_on = refl; row = (refl, refl) }, tt);
+  complete = record { opened = refl; grown = refl; mounted = refl; told = refl; answered = refl };
   holds = holds_behind begun_machine (replica begun_machine 0) refl refl (λ r t. not_asked (is_txn t first_txn) r (has_role begun_machine r t.epoch && true));
 }
 
@@ -123,12 +125,13 @@ not_pending false r role = refl
 whole_commit : IsWhole begun_machine (Client 0 (Commit first_txn)) commit_lines
 whole_commit = record {
   may = (
-    record { named = refl; in_rank = refl; next = refl; row = record { txn = asked_txn; known = refl; new = refl; asked = refl; whole = refl; replays = tt } },
+    record { named = refl; in_rank = refl; next = refl; goes_on = refl; row = record { txn = asked_txn; known = refl; new = refl; asked = refl; whole = refl; replays = tt } },
     (
       record {
         named = refl;
         in_rank = refl;
         next = refl;
+            goes_on = refl;
         row = record {
           within = omega arith;
           all_that_grew = λ e. refl;
@@ -142,6 +145,7 @@ whole_commit = record {
           named = refl;
           in_rank = refl;
           next = refl;
+            goes_on = refl;
           row = record {
             pending = refl;
             shown = refl;
@@ -156,7 +160,7 @@ whole_commit = record {
       ),
     ),
   );
-  complete = record { opened = refl; grown = refl; mounted = refl; answered = refl };
+  complete = record { opened = refl; grown = refl; mounted = refl; told = refl; answered = refl };
   holds = holds_behind committed_machine (replica committed_machine 0) refl refl (λ r t. not_pending (is_txn t first_txn) r (has_role committed_machine r t.epoch));
 }
 

@@ -1,5 +1,5 @@
 -- The start of an event that isn't refused keeps what machines keep.
-use Rattle.std.proofs.Common.{◌≡◌, ◌∙◌, ℕ, Bool, true, false, ◌&&◌, cond, eqb, length, List, [], Option, Some, None, refl, sym, ap, subst}
+use Rattle.std.proofs.Common.{◌≡◌, ◌∙◌, ℕ, Bool, true, false, ◌&&◌, cond, eqb, length, List, [], ◌∷◌, Option, Some, None, refl, sym, ap, subst}
 use Rattle.std.specs.Prelude.{find, option_and_then, not}
 use Rattle.std.specs.Option.{option_map_or}
 use Rattle.std.proofs.lemmas.Bool.{cond_both, cond-false, eqb-true, not-false, false≢true}
@@ -8,16 +8,16 @@ use Rattle.std.proofs.lemmas.Option.{none-some}
 use Rattle.rc_base.specs.declared.ids.TxnId.{TxnId}
 use Rattle.coll_model.specs.declared.op.Op.{Op}
 use Rattle.script_text.specs.declared.event.Event.{Event}
-use Rattle.script_text.specs.declared.event.Event.TheVariants.{Boot, Client}
+use Rattle.script_text.specs.declared.event.Event.TheVariants.{Boot, Client, Arm, Crash, Reboot, Inspect}
 use Rattle.script_text.specs.declared.event.Call.{Call}
 use Rattle.script_text.specs.declared.event.Call.TheVariants.{Begin, Make, Get, Set, Commit}
 use Rattle.order_machine.specs.declared.observation.Observation.TheVariants as says
 use Rattle.order_machine.specs.declared.reply.Reply.{Reply}
 use Rattle.order_machine.specs.Ids.{is_epoch}
-use Rattle.order_machine.specs.Machine.{Machine, Txn, put_txn, txn_of, role_of, replica, is_booted, is_active, is_live, live_txn}
+use Rattle.order_machine.specs.Machine.{Machine, Txn, put_txn, txn_of, role_of, replica, is_booted, is_active, is_live, live_txn, closed}
 use Rattle.order_machine.specs.Answers.{plain, answer, served, seen, reply_at, txn_named, next_txn}
-use Rattle.order_machine.specs.Rows.{refusal, opened, booting, asking, asking_commit, first_epoch, are_members}
-use Rattle.order_machine.proofs.Kept.{Kept, kept_put_known}
+use Rattle.order_machine.specs.Rows.{refusal, opened, at_start, booting, asking, asking_commit, first_epoch, are_members}
+use Rattle.order_machine.proofs.Kept.{Kept, kept_put_known, kept_closed}
 use Rattle.order_machine.proofs.Steps.{KeptAt, IsCalling}
 
 -- ---- boot
@@ -132,12 +132,27 @@ kept_call m k r call = record {
   where
     replica_called : ℕ → Event → ℕ
     replica_called default (Client q other) = q
-    replica_called default (Boot p members) = default
+    replica_called default _ = default
 
     called : Call → Event → Call
     called default (Client q other) = other
-    called default (Boot p members) = default
+    called default _ = default
+
+-- ---- the others
+
+-- an event that is neither a boot nor a call begins where nothing is opened
+kept_other : (m : Machine) (k : Kept m) (event : Event) (mounts : List ℕ) → ((q : ℕ) (members : List ℕ) → event ≡ Boot q members → ⊥) → ((q : ℕ) (call : Call) → event ≡ Client q call → ⊥) → KeptAt (at_start m event None mounts)
+kept_other m k event mounts no_boot no_call = record {
+  machine = k;
+  opening = λ q e. absurd (none-some q e);
+  booting = λ q members e. absurd (no_boot q members e);
+  calling = λ q call e. absurd (no_call q call e);
+}
 
 pub kept_opened : (m : Machine) (k : Kept m) (event : Event) → refusal m event ≡ None → KeptAt (opened m event)
 kept_opened m k (Boot p members) h = kept_boot m k p members h
 kept_opened m k (Client r call) h = kept_call m k r call
+kept_opened m k (Arm r calls) h = kept_other m k (Arm r calls) [] (λ q members e. cc) (λ q call e. cc)
+kept_opened m k (Crash r pick) h = kept_other (closed m r) (kept_closed m k r) (Crash r pick) [] (λ q members e. cc) (λ q call e. cc)
+kept_opened m k (Reboot r) h = kept_other m k (Reboot r) (r ∷ []) (λ q members e. cc) (λ q call e. cc)
+kept_opened m k (Inspect r) h = kept_other m k (Inspect r) [] (λ q members e. cc) (λ q call e. cc)

@@ -133,13 +133,18 @@ AllLack-op_texts (op ∷ ops) h = (Lacks-joined 32 58 (op_parts op) refl (AllLac
 
 -- ---- observations
 
-answer_from : List ℕ → List ℕ → Observation
-answer_from form second =
+answer_from : List ℕ → List (List ℕ) → Observation
+answer_from form words =
+    let second = get_or words 1 [] in
     cond (is_word form (codes "true")) says.True
     (cond (is_word form (codes "false")) says.False
     (cond (is_word form (codes "value")) (says.Value second)
     (cond (is_word form (codes "none")) says.Missing
-    (cond (is_word form (codes "absent")) says.Absent says.WrongKind))))
+    (cond (is_word form (codes "absent")) says.Absent
+    (cond (is_word form (codes "wrongkind")) says.WrongKind
+    (cond (is_word form (codes "fault")) (says.Fault (number second))
+    (cond (is_word form (codes "ignored")) says.IgnoredUp
+    (cond (is_word form (codes "state")) (says.State (number second) (number (get_or words 2 []))) (says.Rows (drop 1 words))))))))))
 
 observation_from : List (List ℕ) → Observation
 observation_from words =
@@ -155,7 +160,7 @@ observation_from words =
     (cond (is_word form (codes "refused")) (says.Refused (number second))
     (cond (is_word form (codes "down")) (says.Down (number second))
     (cond (is_word form (codes "notactive")) (says.NotActive (number second))
-    (cond (is_word form (codes "ended")) (says.Ended (txn second)) (answer_from form second)))))))))))
+    (cond (is_word form (codes "ended")) (says.Ended (txn second)) (answer_from form words)))))))))))
 
 observation_from-words_of : (o : Observation) → IsPrintable o → observation_from (words_of o) ≡ o
 unfolding observation_from answer_from is_word
@@ -176,6 +181,14 @@ observation_from-words_of (says.Value value) h = refl
 observation_from-words_of says.Missing h = refl
 observation_from-words_of says.Absent h = refl
 observation_from-words_of says.WrongKind h = refl
+observation_from-words_of (says.Fault r) h = ap says.Fault (number-decimal r h)
+observation_from-words_of says.IgnoredUp h = refl
+observation_from-words_of (says.State r n) h = ap₂ says.State (number-decimal r h.0) (number-decimal n h.1)
+observation_from-words_of (says.Rows words) h = refl
+
+AllLack-plain : (words : List (List ℕ)) → AllByRecursion IsPlain words → AllLack 32 words
+AllLack-plain [] h = tt
+AllLack-plain (word ∷ words) h = ((Lacks-plain word h.0).0, AllLack-plain words h.1)
 
 AllLack-words_of : (o : Observation) → IsPrintable o → AllLack 32 (words_of o)
 AllLack-words_of (says.Up r) h = (search rules, (Lacks-decimal 32 r (lit< tt) h, tt))
@@ -195,6 +208,10 @@ AllLack-words_of (says.Value value) h = (search rules, ((Lacks-plain value h).0,
 AllLack-words_of says.Missing h = (search rules, tt)
 AllLack-words_of says.Absent h = (search rules, tt)
 AllLack-words_of says.WrongKind h = (search rules, tt)
+AllLack-words_of (says.Fault r) h = (search rules, (Lacks-decimal 32 r (lit< tt) h, tt))
+AllLack-words_of says.IgnoredUp h = (search rules, (search rules, tt))
+AllLack-words_of (says.State r n) h = (search rules, (Lacks-decimal 32 r (lit< tt) h.0, (Lacks-decimal 32 n (lit< tt) h.1, tt)))
+AllLack-words_of (says.Rows words) h = (search rules, AllLack-plain words (recursion_from_All IsPlain words h))
 
 -- ---- lines
 

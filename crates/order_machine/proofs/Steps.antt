@@ -1,5 +1,5 @@
 -- Each line of an event keeps what machines keep, and what holds at its place among the lines.
-use Rattle.std.proofs.Common.{◌≡◌, ◌∙◌, ℕ, ◌≤◌, Bool, true, false, not, ◌||◌, ◌&&◌, cond, List, [], ◌∷◌, Option, Some, None, refl, sym, ap, subst, le_of_lt, eqb}
+use Rattle.std.proofs.Common.{◌≡◌, ◌∙◌, ℕ, ◌≤◌, Bool, true, false, not, ◌||◌, ◌&&◌, cond, List, [], ◌∷◌, Option, Some, None, refl, sym, ap, subst, le_of_lt, eqb, drop, inl, inr}
 use Rattle.std.specs.Prelude.{find, is_some, is_none, option_map, option_and_then}
 use Rattle.std.specs.Option.{option_map_or}
 use Rattle.std.specs.Map.{lookup}
@@ -8,18 +8,18 @@ use Rattle.std.proofs.lemmas.Option.{none-some, same_Some}
 use Rattle.rc_base.specs.declared.ids.TxnId.{TxnId}
 use Rattle.coll_model.specs.declared.op.Op.{Op}
 use Rattle.script_text.specs.declared.event.Event.{Event}
-use Rattle.script_text.specs.declared.event.Event.TheVariants.{Boot, Client}
+use Rattle.script_text.specs.declared.event.Event.TheVariants.{Boot, Client, Arm, Crash, Reboot, Inspect}
 use Rattle.script_text.specs.declared.event.Call.{Call}
 use Rattle.order_machine.specs.declared.observation.Observation.{Observation}
 use Rattle.order_machine.specs.declared.observation.Observation.TheVariants as says
 use Rattle.order_machine.specs.declared.reply.Reply.{Reply}
 use Rattle.order_machine.specs.Ids.{is_epoch, is_txn}
 use Rattle.order_machine.specs.Order.{length_of}
-use Rattle.order_machine.specs.Machine.{Machine, Txn, Appointment, never_opened, replica, put_replica, put_role, role_of, is_active}
+use Rattle.order_machine.specs.Machine.{Machine, Txn, Appointment, never_opened, replica, put_replica, put_role, role_of, is_active, ended_at, closed}
 use Rattle.order_machine.specs.Answers.{plain, answer, begun_by, noted, next_txn, txn_named}
 use Rattle.order_machine.specs.Rows.{Position, event_primary, first_epoch, is_boot, May, MayAnswer, after, MayBeDone, acknowledging, is_asked_commit, answering, answered_by, new_role, with_first_role, showing, activated, up_again}
 use Rattle.order_machine.proofs.Lists.{at_written, some_of, none_of, passed}
-use Rattle.order_machine.proofs.Kept.{Kept, OfRole, order_is, kept_put, kept_without_role, kept_showing, kept_ordering, kept_acknowledging, kept_noted, kept_begun, kept_activated, noting_found}
+use Rattle.order_machine.proofs.Kept.{Kept, OfRole, order_is, kept_put, kept_without_role, kept_showing, kept_ordering, kept_acknowledging, kept_noted, kept_closed, known_before, ended_asked, kept_begun, kept_activated, noting_found}
 
 -- ---- what holds at a place among the lines of an event
 
@@ -61,12 +61,19 @@ calling_on m n r call client none k =
       logs = λ t x e known asked. ap (option_and_then (λ reply. reply.op)) is;
     }
 
--- a call is no boot, and a boot is no call
-no_boot : {P : Type 0} (event : Event) (r : ℕ) (members : List ℕ) → not (is_boot event) ≡ true → event ≡ Boot r members → P
-no_boot event r members other e = absurd (false≢true (sym (ap (λ x. not (is_boot x)) e) ∙ other))
+-- a call is no boot, and opens nothing
+no_boot : {P : Type 0} (event : Event) (r : ℕ) (members : List ℕ) → is_call event ≡ true → event ≡ Boot r members → P
+no_boot event r members call e = absurd (false≢true (sym (ap is_call e) ∙ call))
 
-no_call : {P : Type 0} (event : Event) (r : ℕ) (call : Call) → is_boot event ≡ true → event ≡ Client r call → P
-no_call event r call boot e = absurd (false≢true (sym (ap is_boot e) ∙ boot))
+no_call : {P : Type 0} (event : Event) (r : ℕ) (call : Call) → is_opening event ≡ true → event ≡ Client r call → P
+no_call event r call opens e = absurd (false≢true (sym (ap is_opening e) ∙ opens))
+
+-- a call that has such a line has no answer of its own
+unanswered_view : (event : Event) (client : Option Reply) (r : ℕ) (call : Call) → event ≡ Client r call → (is_opening event || (is_call event && is_none client)) ≡ true → is_none client ≡ true
+unanswered_view event client r call e h = subst (λ x. (is_opening x || (is_call x && is_none client)) ≡ true) e h
+
+unanswered_active : (event : Event) (client : Option Reply) (r : ℕ) (call : Call) → event ≡ Client r call → (is_boot event || (is_call event && is_none client)) ≡ true → is_none client ≡ true
+unanswered_active event client r call e h = subst (λ x. (is_boot x || (is_call x && is_none client)) ≡ true) e h
 
 pub not_open : {P : Type 0} (o : Option ℕ) (r : ℕ) → is_none o ≡ true → o ≡ Some r → P
 not_open o r none e = absurd (none-some r (sym (none_of o (not-true (is_some o) none)) ∙ e))
@@ -89,8 +96,8 @@ kept_order : (p : Position) (t : TxnId) (ops : List Op) → KeptAt p → May p (
 kept_order p t ops k h = record {
   machine = kept_ordering p.machine k.machine (event_primary p.event) t ops h.row.txn h.row.known h.row.new h.row.asked h.row.whole;
   opening = λ q e. not_open p.opening q h.next e;
-  booting = λ q members e. no_boot p.event q members (and_parts (not (is_boot p.event)) (is_none p.client) h.named).0 e;
-  calling = λ q call e unanswered. calling_on p.machine (after p (says.Order t ops)).machine q call p.client (and_parts (not (is_boot p.event)) (is_none p.client) h.named).1 (k.calling q call e unanswered);
+  booting = λ q members e. no_boot p.event q members (and_parts (is_call p.event) (is_none p.client) h.named).0 e;
+  calling = λ q call e unanswered. calling_on p.machine (after p (says.Order t ops)).machine q call p.client (and_parts (is_call p.event) (is_none p.client) h.named).1 (k.calling q call e unanswered);
 }
 
 -- ---- view
@@ -113,11 +120,19 @@ kept_first_role : (m : Machine) (k : Kept m) (event : Event) (mounts : List ℕ)
 kept_first_role m k (Boot r members) [] booting = cond_both (replica m r).up (put_role m r (Some (new_role first_epoch))) m Kept (λ _. kept_new_role m k r (booting r members refl)) (λ _. k)
 kept_first_role m k (Boot r members) (q ∷ mounts) booting = k
 kept_first_role m k (Client r call) mounts booting = k
+kept_first_role m k (Arm r calls) mounts booting = k
+kept_first_role m k (Crash r pick) mounts booting = k
+kept_first_role m k (Reboot r) mounts booting = k
+kept_first_role m k (Inspect r) mounts booting = k
 
 booting_first_role : (m : Machine) (event : Event) (mounts : List ℕ) (r : ℕ) → IsBooting m.txns m.appointments r → IsBooting (with_first_role m event mounts).txns (with_first_role m event mounts).appointments r
 booting_first_role m (Boot p members) [] r b = cond_both (replica m p).up (put_role m p (Some (new_role first_epoch))) m (λ x. IsBooting x.txns x.appointments r) (λ _. b) (λ _. b)
 booting_first_role m (Boot p members) (q ∷ mounts) r b = b
 booting_first_role m (Client p call) mounts r b = b
+booting_first_role m (Arm p calls) mounts r b = b
+booting_first_role m (Crash p pick) mounts r b = b
+booting_first_role m (Reboot p) mounts r b = b
+booting_first_role m (Inspect p) mounts r b = b
 
 -- behind `up`
 kept_opened_view : (p : Position) (r n rank : ℕ) → KeptAt p → May p (says.View r n) → (q : ℕ) → p.opening ≡ Some q → KeptAt (record p { machine = with_first_role (showing p.machine r n) p.event p.mounts; opening = None; rank = rank })
@@ -130,23 +145,23 @@ kept_opened_view p r n rank k h q is =
       machine = kept_first_role (showing m r n) shown p.event p.mounts k.booting;
       opening = λ x e. absurd (none-some x e);
       booting = λ x members e. booting_first_role (showing m r n) p.event p.mounts x (k.booting x members e);
-      calling = λ x call e unanswered. calling_on m (with_first_role (showing m r n) p.event p.mounts) x call p.client h.named (k.calling x call e unanswered);
+      calling = λ x call e unanswered. calling_on m (with_first_role (showing m r n) p.event p.mounts) x call p.client (unanswered_view p.event p.client x call e h.named) (k.calling x call e unanswered);
     }
 
 -- a primary's
-kept_later_view : (p : Position) (r n rank : ℕ) → KeptAt p → May p (says.View r n) → p.opening ≡ None → KeptAt (record p { machine = showing p.machine r n; growing = false; rank = rank })
+kept_later_view : (p : Position) (r n rank : ℕ) → KeptAt p → May p (says.View r n) → p.opening ≡ None → KeptAt (record p { machine = showing p.machine r n; growing = false; rose = r ∷ p.rose; rank = rank })
 kept_later_view p r n rank k h none = record {
   machine = kept_showing p.machine k.machine r n (le_of_lt (h.row.more none)) (subst (λ o. n ≤ length_of o) (order_is p.machine k.machine r) h.row.within);
   opening = λ q e. absurd (none-some q (sym none ∙ e));
   booting = k.booting;
-  calling = λ q call e unanswered. calling_on p.machine (showing p.machine r n) q call p.client h.named (k.calling q call e unanswered);
+  calling = λ q call e unanswered. calling_on p.machine (showing p.machine r n) q call p.client (unanswered_view p.event p.client q call e h.named) (k.calling q call e unanswered);
 }
 
 kept_view : (p : Position) (r n : ℕ) → KeptAt p → May p (says.View r n) → KeptAt (after p (says.View r n))
 kept_view p r n k h =
     by_opening (is_some p.opening) refl
   where
-    by_opening : (b : Bool) → is_some p.opening ≡ b → KeptAt (record (cond b (record p { machine = with_first_role (showing p.machine r n) p.event p.mounts; opening = None }) (record p { machine = showing p.machine r n; growing = false })) { rank = cond b 0 3 })
+    by_opening : (b : Bool) → is_some p.opening ≡ b → KeptAt (record (cond b (record p { machine = with_first_role (showing p.machine r n) p.event p.mounts; opening = None }) (record p { machine = showing p.machine r n; growing = false; rose = r ∷ p.rose })) { rank = cond b 0 3 })
     by_opening true is = let o = some_of p.opening is in kept_opened_view p r n 0 k h o.0 o.1
     by_opening false is = kept_later_view p r n 3 k h (none_of p.opening is)
 
@@ -156,7 +171,7 @@ kept_active : (p : Position) (r : ℕ) → KeptAt p → May p (says.Active r) �
 kept_active p r k h =
     let m = p.machine in
     let role = h.row.role in
-    let active : KeptAt (record p { machine = activated m r role; rank = 4 }) = record {
+    let active : KeptAt (record p { machine = activated m r role; rose = r ∷ p.rose; rank = 4 }) = record {
       machine = kept_activated m k.machine r role h.row.has h.row.shows;
       opening = λ q e. not_open p.opening q (and_parts (is_none p.opening) (not p.growing) h.next).0 e;
       booting = λ q members e. let b = k.booting q members e in let a = noting_found role.epoch first_epoch m.appointments b.appointment b.appointed in record {
@@ -165,9 +180,9 @@ kept_active p r k h =
         appointed = a.1;
         first = a.2 ∙ b.first;
       };
-      calling = λ q call e unanswered. calling_on m (activated m r role) q call p.client h.named (k.calling q call e unanswered);
+      calling = λ q call e unanswered. calling_on m (activated m r role) q call p.client (unanswered_active p.event p.client q call e h.named) (k.calling q call e unanswered);
     } in
-    subst (λ o. KeptAt (record p { machine = option_map_or (activated m r) o m; rank = 4 })) (sym h.row.has) active
+    subst (λ o. KeptAt (record p { machine = option_map_or (activated m r) o m; rose = r ∷ p.rose; rank = 4 })) (sym h.row.has) active
 
 -- ---- committed
 
@@ -175,8 +190,8 @@ kept_committed : (p : Position) (t : TxnId) → KeptAt p → May p (says.Committ
 kept_committed p t k h = record {
   machine = kept_acknowledging p.machine k.machine (event_primary p.event) t h.row.shown h.row.elsewhere;
   opening = λ q e. not_open p.opening q (and_parts (is_none p.opening) (not p.growing) h.next).0 e;
-  booting = λ q members e. no_boot p.event q members (and_parts (not (is_boot p.event)) (is_none p.client) h.named).0 e;
-  calling = λ q call e answered. calling_on p.machine (acknowledging p.machine t) q call p.client (and_parts (not (is_boot p.event)) (is_none p.client) h.named).1 (k.calling q call e (unanswered p.answered (is_asked_commit p.event t) answered));
+  booting = λ q members e. no_boot p.event q members (and_parts (is_call p.event) (is_none p.client) h.named).0 e;
+  calling = λ q call e answered. calling_on p.machine (acknowledging p.machine t) q call p.client (and_parts (is_call p.event) (is_none p.client) h.named).1 (k.calling q call e (unanswered p.answered (is_asked_commit p.event t) answered));
 }
   where
     unanswered : (a b : Bool) → (a || b) ≡ false → a ≡ false
@@ -212,9 +227,17 @@ kept_begin m k r call (says.Value value) none h = k
 kept_begin m k r call says.Missing none h = k
 kept_begin m k r call says.Absent none h = k
 kept_begin m k r call says.WrongKind none h = k
+kept_begin m k r call (says.Fault q) none h = k
+kept_begin m k r call says.IgnoredUp none h = k
+kept_begin m k r call (says.State q n) none h = k
+kept_begin m k r call (says.Rows words) none h = k
 
-kept_answered : (m : Machine) (k : Kept m) (event : Event) (client : Option Reply) (o : Observation) → ((r : ℕ) (call : Call) → event ≡ Client r call → IsCalling m r call client) → (is_boot event ≡ false → option_map (λ reply. reply.answer) client ≡ Some o) → Kept (answered_by m event (record { answer = o; op = option_and_then (λ reply. reply.op) client }))
+kept_answered : (m : Machine) (k : Kept m) (event : Event) (client : Option Reply) (o : Observation) → ((r : ℕ) (call : Call) → event ≡ Client r call → IsCalling m r call client) → (is_call event ≡ true → option_map (λ reply. reply.answer) client ≡ Some o) → Kept (answered_by m event (record { answer = o; op = option_and_then (λ reply. reply.op) client }))
 kept_answered m k (Boot p members) client o calling says = k
+kept_answered m k (Arm r calls) client o calling says = k
+kept_answered m k (Crash r pick) client o calling says = k
+kept_answered m k (Reboot r) client o calling says = k
+kept_answered m k (Inspect r) client o calling says = k
 kept_answered m k (Client r call) client o calling says = by_name (txn_named call) refl
   where
     by_name : (named : Option TxnId) → txn_named call ≡ named → Kept (option_map_or (λ t. noted m t (record { call = call; answer = o; op = option_and_then (λ reply. reply.op) client })) named (begun_by m r o))
@@ -224,8 +247,12 @@ kept_answered m k (Client r call) client o calling says = by_name (txn_named cal
 booting_answered : (m : Machine) (event : Event) (reply : Reply) (primary : ℕ) (members : List ℕ) → event ≡ Boot primary members → IsBooting m.txns m.appointments primary → IsBooting (answered_by m event reply).txns (answered_by m event reply).appointments primary
 booting_answered m (Boot p others) reply primary members e b = b
 booting_answered m (Client r call) reply primary members e b = absurd (cc)
+booting_answered m (Arm r calls) reply primary members e b = b
+booting_answered m (Crash r pick) reply primary members e b = b
+booting_answered m (Reboot r) reply primary members e b = b
+booting_answered m (Inspect r) reply primary members e b = b
 
-kept_answering : (p : Position) (o : Observation) (rank : ℕ) → KeptAt p → is_none p.opening ≡ true → p.answered ≡ false → (is_boot p.event ≡ false → option_map (λ reply. reply.answer) p.client ≡ Some o) → KeptAt (record (answering p o) { rank = rank })
+kept_answering : (p : Position) (o : Observation) (rank : ℕ) → KeptAt p → is_none p.opening ≡ true → p.answered ≡ false → (is_call p.event ≡ true → option_map (λ reply. reply.answer) p.client ≡ Some o) → KeptAt (record (answering p o) { rank = rank })
 kept_answering p o rank k next unanswered is = record {
   machine = kept_answered p.machine k.machine p.event p.client o (λ r call e. k.calling r call e unanswered) is;
   opening = λ q e. not_open p.opening q next e;
@@ -243,9 +270,66 @@ kept_done p k h =
     let done = by_event p.event h.row in
     kept_answering p says.Done 6 k (and_parts (is_none p.opening) (not p.growing) h.next).0 done.0 done.1
   where
-    by_event : (event : Event) → MayBeDone p event → (p.answered ≡ false) × (is_boot event ≡ false → option_map (λ reply. reply.answer) p.client ≡ Some says.Done)
-    by_event (Boot r members) done = (done.2, λ e. absurd (false≢true (sym e)))
+    by_event : (event : Event) → MayBeDone p event → (p.answered ≡ false) × (is_call event ≡ true → option_map (λ reply. reply.answer) p.client ≡ Some says.Done)
+    by_event (Boot r members) done = (done.2, λ e. absurd (false≢true e))
     by_event (Client r call) done = (done.1, λ _. done.0)
+    by_event (Arm r calls) done = (done, λ e. absurd (false≢true e))
+    by_event (Crash r pick) done = (done, λ e. absurd (false≢true e))
+    by_event (Reboot r) done = absurd done
+    by_event (Inspect r) done = absurd done
+
+-- ---- a fault
+
+-- one in the first step of a call is no begin's, which logs nothing
+begin_logs : (m : Machine) (r : ℕ) (call : Call) (client : Option Reply) → txn_named call ≡ None → client ≡ answer m r call → logs client ≡ true → ⊥
+begin_logs m r call client none is h = plain_logs (replica m r).up (is_active m r) (ap logs (sym (is ∙ answer_is m r call none)) ∙ h)
+  where
+    plain_logs : (up active : Bool) → logs (cond (not up) (Some (plain (says.Down r))) (cond (not active) (Some (plain (says.NotActive r))) (Some (plain (says.Txn (next_txn (role_of m r))))))) ≡ true → ⊥
+    plain_logs false active e = false≢true e
+    plain_logs true false e = false≢true e
+    plain_logs true true e = false≢true e
+
+calling_closed : (m : Machine) (q r : ℕ) (call : Call) (client : Option Reply) → logs client ≡ true → IsCalling m r call client → IsCalling (closed m q) r call client
+calling_closed m q r call client h k = record {
+  begins = λ e. absurd (begin_logs m r call client e (k.begins e) h);
+  logs = λ t y e known asked. let x = known_before q m.txns t y known in k.logs t x.0 e x.1 (sym (ended_asked q x.0) ∙ (ap (λ z. z.asked) x.2 ∙ asked));
+}
+
+booting_closed : (m : Machine) (q primary : ℕ) → IsBooting m.txns m.appointments primary → IsBooting (closed m q).txns (closed m q).appointments primary
+booting_closed m q primary b = record { none = ap (ended_at q) b.none; appointment = b.appointment; appointed = b.appointed; first = b.first }
+
+-- the event is a call that logs, or it is answered, or it is none
+fault_calling : (p : Position) (r q : ℕ) (call : Call) → MayFail p r → p.event ≡ Client q call → p.answered ≡ false → logs p.client ≡ true
+fault_calling p r q call (inl first) e unanswered = (subst (λ event. MayFailFirst p event r) e first).2
+fault_calling p r q call (inr second) e unanswered = absurd (false≢true (sym unanswered ∙ second.answered))
+
+kept_fault : (p : Position) (r : ℕ) → KeptAt p → May p (says.Fault r) → KeptAt (after p (says.Fault r))
+kept_fault p r k h =
+    let m = closed p.machine r in
+    let mounts = drop 1 p.mounts in
+    let first : (q : ℕ) (members : List ℕ) → p.event ≡ Boot q members → IsBooting m.txns m.appointments q = λ q members e. booting_closed p.machine r q (k.booting q members e) in
+    record {
+      machine = kept_first_role m (kept_closed p.machine k.machine r) p.event mounts first;
+      opening = λ q e. not_open p.opening q (and_parts (is_none p.opening) (not p.growing) h.next).0 e;
+      booting = λ q members e. booting_first_role m p.event mounts q (first q members e);
+      calling = λ q call e unanswered. subst (λ n. IsCalling n q call p.client) (sym (no_first_role m p.event mounts q call e)) (calling_closed p.machine r q call p.client (fault_calling p r q call h.row e unanswered) (k.calling q call e unanswered));
+    }
+  where
+    no_first_role : (m : Machine) (event : Event) (mounts : List ℕ) (q : ℕ) (call : Call) → event ≡ Client q call → with_first_role m event mounts ≡ m
+    no_first_role m event mounts q call e = subst (λ x. with_first_role m x mounts ≡ m) (sym e) refl
+
+-- ---- an inspection
+
+kept_state : (p : Position) (r n : ℕ) → KeptAt p → May p (says.State r n) → KeptAt (after p (says.State r n))
+kept_state p r n k h = record {
+  machine = k.machine;
+  opening = k.opening;
+  booting = k.booting;
+  calling = λ q call e still. absurd (false≢true (sym still));
+}
+
+kept_rows : (p : Position) (words : List (List ℕ)) → KeptAt p → KeptAt (after p (says.Rows words))
+kept_rows p words k = record { machine = k.machine; opening = k.opening; booting = k.booting; calling = k.calling }
 
 -- ---- each line
 
@@ -267,3 +351,7 @@ kept_line p (says.Value value) k h = kept_reply p (says.Value value) 6 k h.next 
 kept_line p says.Missing k h = kept_reply p says.Missing 6 k h.next h.row
 kept_line p says.Absent k h = kept_reply p says.Absent 6 k h.next h.row
 kept_line p says.WrongKind k h = kept_reply p says.WrongKind 6 k h.next h.row
+kept_line p (says.Fault r) k h = kept_fault p r k h
+kept_line p says.IgnoredUp k h = absurd h.row
+kept_line p (says.State r n) k h = kept_state p r n k h
+kept_line p (says.Rows words) k h = kept_rows p words k

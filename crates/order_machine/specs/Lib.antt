@@ -1,3 +1,4 @@
+pub mod Contents
 pub mod Ids
 pub mod Order
 pub mod Machine

@@ -40,6 +40,10 @@ words_of (says.Value value) = codes "value" ∷ value ∷ []
 words_of says.Missing = codes "none" ∷ []
 words_of says.Absent = codes "absent" ∷ []
 words_of says.WrongKind = codes "wrongkind" ∷ []
+words_of (says.Fault r) = codes "fault" ∷ decimal r ∷ []
+words_of says.IgnoredUp = codes "ignored" ∷ codes "up" ∷ []
+words_of (says.State r k) = codes "state" ∷ decimal r ∷ decimal k ∷ []
+words_of (says.Rows words) = codes "rows" ∷ words
 
 -- the text of a line without its LF; 32 is a space
 abbrev pub line_text : ℕ → Observation → List ℕ
@@ -85,6 +89,10 @@ IsPrintable (says.Value value) = IsPlain value
 IsPrintable says.Missing = Unit {0}
 IsPrintable says.Absent = Unit {0}
 IsPrintable says.WrongKind = Unit {0}
+IsPrintable (says.Fault r) = r < 2 ^ 64
+IsPrintable says.IgnoredUp = Unit {0}
+IsPrintable (says.State r k) = (r < 2 ^ 64) × (k < 2 ^ 64)
+IsPrintable (says.Rows words) = All IsPlain words
 
 -- a line that was printed is that of one number and one observation
 abbrev pub LinesReadOnce : Type 0

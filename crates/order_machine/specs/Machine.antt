@@ -111,6 +111,15 @@ role_of m r = (replica m r).role
 abbrev pub put_role : Machine → ℕ → Option Role → Machine
 put_role m r new = put_replica m r (record (replica m r) { role = new })
 
+-- nothing goes on at the replica any more
+abbrev pub ended_at : ℕ → List (TxnId × Txn) → List (TxnId × Txn)
+ended_at r [] = []
+ended_at r (entry ∷ txns) = (entry.0, if entry.1.home == r then record entry.1 { live = false } else entry.1) ∷ ended_at r txns
+
+-- the replica is closed: its role ends, and with it what goes on there; what it showed last is kept
+abbrev pub closed : Machine → ℕ → Machine
+closed m r = record (put_replica m r (record (replica m r) { up = false; role = None })) { txns = ended_at r m.txns }
+
 abbrev pub appointment_of : Machine → Epoch → Option Appointment
 appointment_of m e = find (λ a. is_epoch e a.epoch) m.appointments
 

@@ -1,5 +1,5 @@
 -- The lines of an event, one after another: where each may come, and what it changes.
-use Rattle.std.specs.Prelude.{◌≡◌, ℕ, ◌+◌, ◌<◌, ◌≤◌, Bool, true, false, not, ◌&&◌, ◌||◌, ◌==◌, nat_le, if◌then◌else◌, List, [], ◌∷◌, ◌++◌, drop, filter, Option, Some, None, is_some, is_none, option_and_then, option_map}
+use Rattle.std.specs.Prelude.{◌≡◌, ◌⊎◌, length, ℕ, ◌+◌, ◌<◌, ◌≤◌, Bool, true, false, not, ◌&&◌, ◌||◌, ◌==◌, nat_le, if◌then◌else◌, List, [], ◌∷◌, ◌++◌, drop, filter, Option, Some, None, is_some, is_none, option_and_then, option_map}
 use Rattle.std.specs.Option.{option_map_or}
 use Rattle.std.specs.List.{list_any}
 use Rattle.rc_base.specs.declared.ids.Epoch.{Epoch}
@@ -7,14 +7,15 @@ use Rattle.rc_base.specs.declared.ids.TxnId.{TxnId}
 use Rattle.rc_base.specs.Members.{first_twice}
 use Rattle.coll_model.specs.declared.op.Op.{Op}
 use Rattle.script_text.specs.declared.event.Event.{Event}
-use Rattle.script_text.specs.declared.event.Event.TheVariants.{Boot, Client}
+use Rattle.script_text.specs.declared.event.Event.TheVariants.{Boot, Client, Arm, Crash, Reboot, Inspect}
 use Rattle.script_text.specs.declared.event.Call.{Call}
 use Rattle.script_text.specs.declared.event.Call.TheVariants.{Begin, Commit}
 use Rattle.order_machine.specs.declared.observation.Observation.{Observation}
 use Rattle.order_machine.specs.declared.observation.Observation.TheVariants as says
 use Rattle.order_machine.specs.Ids.{is_txn, is_epoch, epoch_le}
 use Rattle.order_machine.specs.Order.{length_of, state_at, holds, before}
-use Rattle.order_machine.specs.Machine.{Machine, Replica, Role, Txn, Appointment, replica, put_replica, order_of, put_order, txn_of, put_txn, role_of, put_role, is_booted, is_active, is_alone, is_shown, is_acknowledged, is_live, is_pending, ops_of}
+use Rattle.order_machine.specs.Machine.{Machine, Replica, Role, Txn, Appointment, replica, put_replica, order_of, put_order, txn_of, put_txn, role_of, put_role, is_booted, is_active, is_alone, is_shown, is_acknowledged, is_live, is_pending, ops_of, closed}
+use Rattle.order_machine.specs.Contents.{rows_of}
 use Rattle.order_machine.specs.declared.reply.Reply.{Reply}
 use Rattle.order_machine.specs.Answers.{answer, answered_at, Replays}
 
@@ -22,8 +23,9 @@ use Rattle.order_machine.specs.Answers.{answer, answered_at, Replays}
 
 -- The place within the lines of an event: the machine as it is there; the event; the answer to a client call, as it
 -- was when the event began; whether the event's answer stands; the rank of the last line; the replica whose `up`
--- stands, so that its `view` is next; whether an `order` stands, so that more of them or a `view` are next; and the
--- members that `boot` still has to open.
+-- stands, so that its `view` is next; whether an `order` stands, so that more of them or a `view` are next; the
+-- replicas that are still to be opened; the `rows` that an inspection still has to print; the primaries that became
+-- active or showed more; and the replicas that a fault closed.
 pub record Position : Type 0 where
   pub machine : Machine
   pub event : Event
@@ -33,20 +35,38 @@ pub record Position : Type 0 where
   pub opening : Option ℕ
   pub growing : Bool
   pub mounts : List ℕ
+  pub rows : List (List (List ℕ))
+  pub rose : List ℕ
+  pub faulted : List ℕ
 
 -- the replica whose clients an event may answer
 abbrev pub event_primary : Event → ℕ
 event_primary (Boot p members) = p
 event_primary (Client r call) = r
+event_primary (Arm r calls) = r
+event_primary (Crash r pick) = r
+event_primary (Reboot r) = r
+event_primary (Inspect r) = r
 
 -- whether the replica takes a step in the event
 abbrev pub is_actor : Event → ℕ → Bool
 is_actor (Boot p members) r = list_any (λ member. member == r) members
-is_actor (Client at call) r = at == r
+is_actor event r = event_primary event == r
 
 abbrev pub is_boot : Event → Bool
 is_boot (Boot p members) = true
-is_boot (Client r call) = false
+is_boot _ = false
+
+-- a client's call
+abbrev pub is_call : Event → Bool
+is_call (Client r call) = true
+is_call _ = false
+
+-- the event opens replicas
+abbrev pub is_opening : Event → Bool
+is_opening (Boot p members) = true
+is_opening (Reboot r) = true
+is_opening _ = false
 
 -- ---- refusals
 
@@ -54,11 +74,20 @@ is_boot (Client r call) = false
 abbrev pub are_members : ℕ → List ℕ → Bool
 are_members p members = list_any (λ member. member == p) members && is_none (first_twice members)
 
--- the one line of an event that the machine's state refuses: before the boot each other event, and then a second boot
+-- before the boot each other event is refused, and then what else refuses it
+abbrev pub once_booted : Machine → Option Observation → Option Observation
+once_booted m refused = if is_booted m then refused else Some (says.Refused 9)
+
+-- The one line of an event that the machine's state refuses: before the boot each other event, and then a second boot;
+-- a boot of unlawful members; and what asks something of a replica that is closed, or opens one that is open.
 abbrev pub refusal : Machine → Event → Option Observation
 refusal m (Boot p members) =
     if is_booted m then Some (says.Refused 9) else (if are_members p members then None else Some (says.Refused 2))
-refusal m (Client r call) = if is_booted m then None else Some (says.Refused 9)
+refusal m (Client r call) = once_booted m None
+refusal m (Arm r calls) = once_booted m (if (replica m r).up then None else Some (says.Down r))
+refusal m (Crash r pick) = once_booted m None
+refusal m (Reboot r) = once_booted m (if (replica m r).up then Some says.IgnoredUp else None)
+refusal m (Inspect r) = once_booted m (if (replica m r).up then None else Some (says.Down r))
 
 -- ---- the beginning of an event
 
@@ -99,12 +128,19 @@ at_start m event client mounts = record {
   opening = None;
   growing = false;
   mounts = mounts;
+  rows = [];
+  rose = [];
+  faulted = [];
 }
 
 -- where an event that isn't refused begins
 abbrev pub opened : Machine → Event → Position
 opened m (Boot p members) = at_start (booting m p members) (Boot p members) None (in_order members)
 opened m (Client r call) = at_start (asking m r call) (Client r call) (answer m r call) []
+opened m (Arm r calls) = at_start m (Arm r calls) None []
+opened m (Crash r pick) = at_start (closed m r) (Crash r pick) None []
+opened m (Reboot r) = at_start m (Reboot r) None (r ∷ [])
+opened m (Inspect r) = at_start m (Inspect r) None []
 
 -- ---- the order of lines
 
@@ -115,6 +151,7 @@ rank_of (says.Order t ops) = 2
 rank_of (says.View r n) = 3
 rank_of (says.Active r) = 4
 rank_of (says.Committed t) = 5
+rank_of (says.Fault r) = 9
 rank_of _ = 6
 
 abbrev pub comes_once : Observation → Bool
@@ -130,6 +167,10 @@ abbrev pub is_next : Position → Observation → Bool
 is_next p (says.View r n) = option_map_or (λ opening. opening == r) p.opening true
 is_next p (says.Order t ops) = is_none p.opening
 is_next p _ = is_none p.opening && not p.growing
+
+-- behind a fault only a boot goes on
+abbrev pub may_go_on : Position → Bool
+may_go_on p = is_boot p.event || length p.faulted == 0
 
 -- ---- the rows
 
@@ -179,6 +220,48 @@ MayAnswer p o = (option_map (λ reply. reply.answer) p.client ≡ Some o) × (p.
 abbrev pub MayBeDone : Position → Event → Type 0
 MayBeDone p (Boot primary members) = (p.mounts ≡ []) × (is_some (role_of p.machine primary) ≡ true) × (p.answered ≡ false)
 MayBeDone p (Client r call) = MayAnswer p says.Done
+MayBeDone p (Arm r calls) = p.answered ≡ false
+MayBeDone p (Crash r pick) = p.answered ≡ false
+MayBeDone p (Reboot r) = ⊥
+MayBeDone p (Inspect r) = ⊥
+
+-- what r shows, by an inspection
+abbrev pub shown_rows : Position → ℕ → List (List (List ℕ))
+shown_rows p r = rows_of (state_at (order_of p.machine r) (replica p.machine r).show)
+
+-- an inspection tells how many collections the replica shows, and then each of them
+abbrev pub MayTell : Position → Event → ℕ → ℕ → Type 0
+MayTell p (Inspect at) r k = (at ≡ r) × (k ≡ length (shown_rows p r)) × (p.answered ≡ false)
+MayTell p _ r k = ⊥
+
+-- ---- faults
+
+-- the step of the call logs something: an operation, or the end of a live transaction
+abbrev pub logs : Option Reply → Bool
+logs None = true
+logs (Some reply) = is_some reply.op
+
+-- the primary starts its epoch, and isn't active yet
+abbrev pub IsStarting : Position → ℕ → ℕ → Type 0
+IsStarting p primary r = (r ≡ primary) × (p.mounts ≡ []) × ((replica p.machine r).up ≡ true) × (is_active p.machine r ≡ false) × (p.answered ≡ false)
+
+-- a fault of the disk in the first step of an event, before any line of that step: in a mount, in the start of an
+-- epoch, and in a call that logs
+abbrev pub MayFailFirst : Position → Event → ℕ → Type 0
+MayFailFirst p (Boot primary members) r = MayOpen p r ⊎ IsStarting p primary r
+MayFailFirst p (Client at call) r = (at ≡ r) × (p.rank ≡ 0) × (logs p.client ≡ true) × (p.answered ≡ false)
+MayFailFirst p (Reboot at) r = MayOpen p r
+MayFailFirst p _ r = ⊥
+
+-- one in the second step, behind the answer: a primary that became active or showed more logs that
+pub record MayFailSecond (p : Position) (r : ℕ) : Type 0 where
+  pub rose : list_any (λ q. q == r) p.rose ≡ true
+  pub answered : p.answered ≡ true
+  pub nothing_due : (t : TxnId) → is_pending p.machine r t ≡ true → is_shown p.machine r t ≡ false
+  pub is_up : (replica p.machine r).up ≡ true
+
+abbrev pub MayFail : Position → ℕ → Type 0
+MayFail p r = MayFailFirst p p.event r ⊎ MayFailSecond p r
 
 -- the row of each line
 abbrev pub Row : Position → Observation → Type 0
@@ -189,16 +272,23 @@ Row p (says.Active r) = MayBeActive p r
 Row p (says.Committed t) = MayCommit p t
 Row p says.Done = MayBeDone p p.event
 Row p (says.Refused part) = ⊥
+Row p says.IgnoredUp = ⊥
+Row p (says.Fault r) = MayFail p r
+Row p (says.State r k) = MayTell p p.event r k
+Row p (says.Rows words) = (rest : List (List (List ℕ))) × (p.rows ≡ words ∷ rest)
 Row p o = MayAnswer p o
 
--- Which lines an event has at all. A call that is answered has its answer alone; the commit of a live transaction has no
--- answer of its own.
+-- the event is a call that has no answer of its own: the commit of a live transaction
+abbrev pub is_granted : Position → Bool
+is_granted p = is_call p.event && is_none p.client
+
+-- Which lines an event has at all. A call that is answered has its answer alone.
 abbrev pub is_named : Position → Observation → Bool
-is_named p (says.Up r) = is_boot p.event
-is_named p (says.Order t ops) = not (is_boot p.event) && is_none p.client
-is_named p (says.View r n) = is_none p.client
-is_named p (says.Active r) = is_none p.client
-is_named p (says.Committed t) = not (is_boot p.event) && is_none p.client
+is_named p (says.Up r) = is_opening p.event
+is_named p (says.Order t ops) = is_granted p
+is_named p (says.View r n) = is_opening p.event || is_granted p
+is_named p (says.Active r) = is_boot p.event || is_granted p
+is_named p (says.Committed t) = is_granted p
 is_named p o = true
 
 -- the line may be the next one of the event
@@ -206,6 +296,7 @@ pub record May (p : Position) (o : Observation) : Type 0 where
   pub named : is_named p o ≡ true
   pub in_rank : is_in_rank p.rank o ≡ true
   pub next : is_next p o ≡ true
+  pub goes_on : may_go_on p ≡ true
   pub row : Row p o
 
 -- ---- what a line changes
@@ -220,7 +311,7 @@ new_role epoch = record { epoch = epoch; active = false; begins = 0; idle = [] }
 abbrev pub with_first_role : Machine → Event → List ℕ → Machine
 with_first_role m (Boot p members) [] = if (replica m p).up then put_role m p (Some (new_role first_epoch)) else m
 with_first_role m (Boot p members) (r ∷ rs) = m
-with_first_role m (Client r call) mounts = m
+with_first_role m _ mounts = m
 
 abbrev pub showing : Machine → ℕ → ℕ → Machine
 showing m r n = put_replica m r (record (replica m r) { show = n })
@@ -251,6 +342,7 @@ is_asked_commit _ t = false
 abbrev pub answered_by : Machine → Event → Reply → Machine
 answered_by m (Boot p members) reply = m
 answered_by m (Client r call) reply = answered_at m r call reply
+answered_by m _ reply = m
 
 abbrev pub answering : Position → Observation → Position
 answering p o = record p {
@@ -264,14 +356,18 @@ changed p (says.Order t ops) = record p { machine = ordering p.machine (event_pr
 changed p (says.View r n) =
     if is_some p.opening
     then record p { machine = with_first_role (showing p.machine r n) p.event p.mounts; opening = None }
-    else record p { machine = showing p.machine r n; growing = false }
-changed p (says.Active r) = record p { machine = now_active p.machine r }
+    else record p { machine = showing p.machine r n; growing = false; rose = r ∷ p.rose }
+changed p (says.Active r) = record p { machine = now_active p.machine r; rose = r ∷ p.rose }
 changed p (says.Committed t) = record p { machine = acknowledging p.machine t; answered = p.answered || is_asked_commit p.event t }
+changed p (says.Fault r) = record p { machine = with_first_role (closed p.machine r) p.event (drop 1 p.mounts); mounts = drop 1 p.mounts; faulted = r ∷ p.faulted }
+changed p (says.State r k) = record p { rows = shown_rows p r; answered = true }
+changed p (says.Rows words) = record p { rows = drop 1 p.rows }
 changed p o = answering p o
 
 -- the rank behind a line: a mount is a step of its own
 abbrev pub next_rank : Position → Observation → ℕ
 next_rank p (says.View r n) = if is_some p.opening then 0 else 3
+next_rank p (says.Fault r) = if length p.mounts == 0 then 9 else 0
 next_rank p o = rank_of o
 
 abbrev pub after : Position → Observation → Position
@@ -279,12 +375,20 @@ after p o = record (changed p o) { rank = next_rank p o }
 
 -- ---- the end of an event
 
+-- The event has its answer, or a fault stands in its place: in a boot one of the primary. A reboot has no other than its
+-- `up`.
+abbrev pub has_answer : Position → Event → Bool
+has_answer p (Boot primary members) = p.answered || list_any (λ r. r == primary) p.faulted
+has_answer p (Reboot r) = true
+has_answer p _ = p.answered || not (length p.faulted == 0)
+
 -- the lines so far can be all of the event
 pub record IsComplete (p : Position) : Type 0 where
   pub opened : p.opening ≡ None
   pub grown : p.growing ≡ false
   pub mounted : p.mounts ≡ []
-  pub answered : p.answered ≡ true
+  pub told : p.rows ≡ []
+  pub answered : has_answer p p.event ≡ true
 
 -- What holds behind each event: what is pending at a replica isn't shown there, and a primary that is alone in its
 -- configurations is active and has nothing pending.

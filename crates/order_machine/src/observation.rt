@@ -1,3 +1,4 @@
+use crate::words::Words;
 use coll_model::Ops;
 use rc_base::{Bytes, ReplicaId, TxnId};
 
@@ -39,4 +40,12 @@ pub enum Observation {
     Absent,
     /// `wrongkind`: the collection is of another kind.
     WrongKind,
+    /// `fault r`: r's disk failed in a step, and r is closed.
+    Fault(ReplicaId),
+    /// `ignored up`: the replica is open already.
+    IgnoredUp,
+    /// `state r k`: r shows k collections, which follow.
+    State(ReplicaId, u64),
+    /// `rows words`: a collection with its kind and its items.
+    Rows(Words),
 }

@@ -6,7 +6,7 @@ ghost use Rattle.order_machine.specs.Lines.{line_text, words_of, op_text};
 use crate::observation::Observation;
 use coll_model::{Kind, Op};
 use itoa::Buffer;
-use rc_base::{NoMemory, ReplicaId, TxnId};
+use rc_base::{Bytes, NoMemory, ReplicaId, TxnId};
 
 // what stands before each word of a line
 const SPACE: u8 = b' ';
@@ -77,7 +77,31 @@ fn write_words(observation: &Observation, out: &mut Vec<u8>) -> Result<(), NoMem
         Observation::Missing => write_word(SPACE, b"none", out),
         Observation::Absent => write_word(SPACE, b"absent", out),
         Observation::WrongKind => write_word(SPACE, b"wrongkind", out),
+        Observation::Fault(r) => write_with_replica(b"fault", *r, out),
+        Observation::IgnoredUp => {
+            write_word(SPACE, b"ignored", out)?;
+            write_word(SPACE, b"up", out)
+        }
+        Observation::State(r, k) => {
+            write_with_replica(b"state", *r, out)?;
+            write_number(SPACE, *k, out)
+        }
+        Observation::Rows(words) => {
+            write_word(SPACE, b"rows", out)?;
+            write_each(words.as_slice(), out)
+        }
     }
+}
+
+// words, each behind a space
+fn write_each(words: &[Bytes], out: &mut Vec<u8>) -> Result<(), NoMemory>
+    ensures ok { OnOk result (out.new.items ≡ out.old.items ++ flat_map (λ word. SPACE ∷ word) words.now) }
+    ensures kept { StartsWith out.new.items out.old.items }
+{
+    for word in words {
+        write_word(SPACE, word.as_slice(), out)?;
+    }
+    Ok(())
 }
 
 // a word and a replica

@@ -9,7 +9,7 @@ use Rattle.rc_base.specs.Names.{is_name_letter, is_name}
 use Rattle.coll_model.specs.declared.op.Kind.{Kind}
 use Rattle.coll_model.specs.declared.op.Kind.TheVariants as kinds
 use Rattle.script_text.specs.declared.event.Event.{Event}
-use Rattle.script_text.specs.declared.event.Event.TheVariants.{Boot, Client}
+use Rattle.script_text.specs.declared.event.Event.TheVariants.{Boot, Client, Arm, Crash, Reboot, Inspect}
 use Rattle.script_text.specs.declared.event.Call.{Call}
 use Rattle.script_text.specs.declared.event.Call.TheVariants as calls
 use Rattle.script_text.specs.Letters.{is_key_letter, is_key_word, is_value_word}
@@ -92,6 +92,10 @@ AllLack-words (Boot p members) is = (search rules, (Lacks-zero p is.0, (one_memb
   one_member : (ms : List ℕ) → ms ≡ 0 ∷ [] → Lacks 32 (members_text ms)
   one_member ms e = rw e (Lacks-decimal 32 0 (lit< tt) (lit< tt))
 AllLack-words (Client r call) is = AllLack-call r call is.0 is.1
+AllLack-words (Arm r calls) is = absurd is
+AllLack-words (Crash r pick) is = absurd is
+AllLack-words (Reboot r) is = absurd is
+AllLack-words (Inspect r) is = absurd is
 
 some_words_at : (r : ℕ) (call : Call) → 0 < length (words_at r call)
 some_words_at r call = grind arith
@@ -99,6 +103,10 @@ some_words_at r call = grind arith
 some_words : (event : Event) → 0 < length (words_of event)
 some_words (Boot p members) = lit< tt
 some_words (Client r call) = some_words_at r call
+some_words (Arm r calls) = lit< tt
+some_words (Crash r pick) = lit< tt
+some_words (Reboot r) = lit< tt
+some_words (Inspect r) = lit< tt
 
 -- ---- lines and their words
 
@@ -141,6 +149,14 @@ same_event (Client r call) (Client s other) is_a is_b e =
     let calls_same : call ≡ other = same_call r call other is_a.1 is_b.1 (e ∙ ap (λ q. words_at q other) (sym replicas)) in cc
 same_event (Boot p members) (Client s call) is_a is_b e = absurd (no_boot p members s call e)
 same_event (Client r call) (Boot q others) is_a is_b e = absurd (no_boot q others r call (sym e))
+same_event (Arm r calls) b is_a is_b e = absurd is_a
+same_event (Crash r pick) b is_a is_b e = absurd is_a
+same_event (Reboot r) b is_a is_b e = absurd is_a
+same_event (Inspect r) b is_a is_b e = absurd is_a
+same_event a (Arm r calls) is_a is_b e = absurd is_b
+same_event a (Crash r pick) is_a is_b e = absurd is_b
+same_event a (Reboot r) is_a is_b e = absurd is_b
+same_event a (Inspect r) is_a is_b e = absurd is_b
 
 pub same_from_line : (line : List ℕ) (a b : Event) → Spells line a → Spells line b → a ≡ b
 same_from_line line a b spells_a spells_b =

@@ -8,7 +8,7 @@ use Rattle.rc_base.specs.Names.{is_name}
 use Rattle.coll_model.specs.declared.op.Kind.{Kind}
 use Rattle.coll_model.specs.declared.op.Kind.TheVariants as kinds
 use Rattle.script_text.specs.declared.event.Event.{Event}
-use Rattle.script_text.specs.declared.event.Event.TheVariants.{Boot, Client}
+use Rattle.script_text.specs.declared.event.Event.TheVariants.{Boot, Client, Arm, Crash, Reboot, Inspect}
 use Rattle.script_text.specs.declared.event.Call.{Call}
 use Rattle.script_text.specs.declared.event.Call.TheVariants as calls
 use Rattle.script_text.specs.Letters.{is_key_word, is_value_word}
@@ -44,6 +44,10 @@ words_at r (calls.Commit t) = codes "commit" ∷ decimal r ∷ txn_text t ∷ []
 abbrev pub words_of : Event → List (List ℕ)
 words_of (Boot p members) = codes "boot" ∷ decimal p ∷ members_text members ∷ []
 words_of (Client r call) = words_at r call
+words_of (Arm r calls) = codes "arm" ∷ decimal r ∷ decimal calls ∷ []
+words_of (Crash r pick) = codes "crash" ∷ decimal r ∷ decimal pick ∷ []
+words_of (Reboot r) = codes "reboot" ∷ decimal r ∷ []
+words_of (Inspect r) = codes "inspect" ∷ decimal r ∷ []
 
 -- 32 is a space
 abbrev pub text_of : Event → List ℕ
@@ -73,6 +77,10 @@ IsBuiltCall (calls.Commit t) = IsBuiltTxn t
 abbrev pub IsBuilt : Event → Type 0
 IsBuilt (Boot p members) = (p ≡ 0) × (members ≡ 0 ∷ [])
 IsBuilt (Client r call) = (r ≡ 0) × IsBuiltCall call
+IsBuilt (Arm r calls) = ⊥
+IsBuilt (Crash r pick) = ⊥
+IsBuilt (Reboot r) = ⊥
+IsBuilt (Inspect r) = ⊥
 
 -- ---- lines
 

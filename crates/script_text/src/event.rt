@@ -11,6 +11,14 @@ pub enum Event {
     Boot(ReplicaId, Replicas),
     /// A client's call at a replica.
     Client(ReplicaId, Call),
+    /// `arm R K`: the K-th later call of R's disk fails, and every later one.
+    Arm(ReplicaId, u64),
+    /// `crash R PICK`: R is closed, and its disk keeps what the pick says of what wasn't synced.
+    Crash(ReplicaId, u64),
+    /// `reboot R`: opens R again.
+    Reboot(ReplicaId),
+    /// `inspect R`: prints what R shows.
+    Inspect(ReplicaId),
 }
 
 /// What a client asks of a replica R.
