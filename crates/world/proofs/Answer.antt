@@ -1,6 +1,5 @@
 -- A client event whose one line is its answer.
-use Rattle.std.proofs.Common.{◌≡◌, ◌∙◌, sym, ap, subst, ℕ, List, [], ◌∷◌, Bool, true, false, Option, Some, None, MatchOption, cond, refl}
-use Rattle.std.specs.Prelude.{is_some}
+use Rattle.std.proofs.Common.{◌≡◌, ◌∙◌, sym, ap, subst, ℕ, List, [], ◌∷◌, Bool, true, false, Option, Some, None, refl}
 use Rattle.std.proofs.lemmas.Bool.{false≢true}
 use Rattle.std.proofs.lemmas.Option.{none-some, same_Some}
 use Rattle.coll_model.specs.declared.op.Kind.{Kind}
@@ -8,7 +7,6 @@ use Rattle.coll_model.specs.declared.op.Op.{Op}
 use Rattle.coll_model.specs.declared.contents.Contents.{Contents}
 use Rattle.coll_model.specs.declared.contents.Contents.TheVariants.{Dict, Queue}
 use Rattle.coll_model.specs.Effect.{State, at_key}
-use Rattle.script_text.specs.declared.event.Event.{Event}
 use Rattle.script_text.specs.declared.event.Event.TheVariants.{Client}
 use Rattle.script_text.specs.declared.event.Call.{Call}
 use Rattle.script_text.specs.declared.event.Call.TheVariants.{Begin, Make, Get, Set, Commit}

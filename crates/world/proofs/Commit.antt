@@ -3,7 +3,7 @@ use Rattle.std.proofs.Common.{◌≡◌, ◌∙◌, sym, ap, subst, ℕ, zero, s
 use Rattle.std.specs.Option.{option_map_or}
 use Rattle.std.specs.List.{list_any}
 use Rattle.std.specs.Map.{lookup}
-use Rattle.std.proofs.lemmas.Bool.{false≢true, false_from_ne_true, or_cases, or_right}
+use Rattle.std.proofs.lemmas.Bool.{false≢true, false_from_ne_true, or_cases}
 use Rattle.std.proofs.lemmas.Grind.{flat_map-append}
 use Rattle.std.proofs.lemmas.List.Folds.{list_any-append}
 use Rattle.std.proofs.lemmas.List.Sums.{fold-append}
@@ -16,8 +16,8 @@ use Rattle.order_machine.specs.declared.observation.Observation.{Observation}
 use Rattle.order_machine.specs.declared.observation.Observation.TheVariants as says
 use Rattle.order_machine.specs.Ids.{is_txn, is_epoch}
 use Rattle.order_machine.specs.Order.{Entry, holds, before}
-use Rattle.order_machine.specs.Machine.{Machine, Txn, Role, is_live, live_txn, is_pending, is_shown, role_of, put_txn, never_opened, ops_of}
-use Rattle.order_machine.specs.Answers.{plain, answer, Replays}
+use Rattle.order_machine.specs.Machine.{Machine, Txn, Role, is_live, is_pending, is_shown, role_of, put_txn, never_opened, ops_of}
+use Rattle.order_machine.specs.Answers.{plain, Replays}
 use Rattle.order_machine.specs.Rows.{Position, May, opened, at_start, after, first_epoch}
 use Rattle.order_machine.specs.Legal.{IsWhole, moved}
 use Rattle.order_machine.proofs.Ids.{is_txn-true, is_txn_same}
