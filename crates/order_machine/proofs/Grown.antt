@@ -15,7 +15,7 @@ use Rattle.order_machine.specs.declared.observation.Observation.TheVariants as s
 use Rattle.order_machine.specs.declared.reply.Reply.{Reply}
 use Rattle.order_machine.specs.Order.{Entry, Order, empty_order}
 use Rattle.order_machine.specs.Machine.{Machine, Role, Txn, replica, put_role, put_txn, role_of, txn_of, order_of, is_active, is_live, closed}
-use Rattle.order_machine.specs.Answers.{answered_at, begun_by, noted, txn_named}
+use Rattle.order_machine.specs.Answers.{begun_by, noted, txn_named}
 use Rattle.order_machine.specs.Rows.{Position, event_primary, first_epoch, opened, asking, answering, answered_by, after, ordering, showing, with_first_role, new_role, now_active, activated}
 use Rattle.order_machine.specs.Legal.{Filter, Step, behind, IsBegun, moved, IsLegal, moved_all}
 use Rattle.order_machine.specs.Laws.{entries_of, OrdersGrow}

@@ -8,4 +8,4 @@ pub mod Opened
 pub mod Reading
 pub mod Runs
 pub mod Steps
-pub mod Words
+pub mod Joined

@@ -17,7 +17,7 @@ use Rattle.order_machine.specs.Ids.{is_epoch, is_txn}
 use Rattle.order_machine.specs.Order.{length_of}
 use Rattle.order_machine.specs.Machine.{Machine, Txn, Appointment, never_opened, replica, put_replica, put_role, role_of, is_active, ended_at, closed}
 use Rattle.order_machine.specs.Answers.{plain, answer, begun_by, noted, next_txn, txn_named}
-use Rattle.order_machine.specs.Rows.{Position, event_primary, first_epoch, is_boot, May, MayAnswer, after, MayBeDone, acknowledging, is_asked_commit, answering, answered_by, new_role, with_first_role, showing, activated, up_again}
+use Rattle.order_machine.specs.Rows.{Position, event_primary, first_epoch, is_boot, is_call, is_opening, May, MayAnswer, MayFail, MayFailFirst, logs, after, MayBeDone, acknowledging, is_asked_commit, answering, answered_by, new_role, with_first_role, showing, activated, up_again}
 use Rattle.order_machine.proofs.Lists.{at_written, some_of, none_of, passed}
 use Rattle.order_machine.proofs.Kept.{Kept, OfRole, order_is, kept_put, kept_without_role, kept_showing, kept_ordering, kept_acknowledging, kept_noted, kept_closed, known_before, ended_asked, kept_begun, kept_activated, noting_found}
 

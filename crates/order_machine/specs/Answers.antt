@@ -5,7 +5,6 @@ use Rattle.std.specs.List.{cons_option}
 use Rattle.rc_base.specs.declared.ids.Epoch.{Epoch}
 use Rattle.rc_base.specs.declared.ids.TxnId.{TxnId}
 use Rattle.coll_model.specs.declared.op.Kind.{Kind}
-use Rattle.coll_model.specs.declared.op.Op.{Op}
 use Rattle.coll_model.specs.declared.op.Op.TheVariants as ops
 use Rattle.coll_model.specs.declared.contents.Contents.{Contents}
 use Rattle.coll_model.specs.declared.contents.Contents.TheVariants.{Dict, Queue}

@@ -1,5 +1,5 @@
 -- What an inspection prints of a state: a line for each collection.
-use Rattle.std.specs.Prelude.{ℕ, List, [], ◌∷◌, ◌++◌, map}
+use Rattle.std.specs.Prelude.{ℕ, List, ◌∷◌, ◌++◌, map}
 use Rattle.coll_model.specs.declared.contents.Contents.{Contents}
 use Rattle.coll_model.specs.declared.contents.Contents.TheVariants.{Dict, Queue}
 use Rattle.coll_model.specs.Effect.{State, kind_of}

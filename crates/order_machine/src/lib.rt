@@ -7,7 +7,7 @@ mod observation;
 mod observations;
 mod printing;
 mod reply;
-mod words;
+mod word_list;
 
 pub use laws::{
     acknowledged_are_ordered, asked_are_ordered, beginnings_are_shown, lines_read_once,
@@ -18,7 +18,7 @@ pub use observation::Observation;
 pub use observations::Observations;
 pub use printing::print;
 pub use reply::Reply;
-pub use words::Words;
+pub use word_list::Words;
 
 #[cfg(test)]
 mod tests;

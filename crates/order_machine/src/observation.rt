@@ -1,4 +1,4 @@
-use crate::words::Words;
+use crate::word_list::Words;
 use coll_model::Ops;
 use rc_base::{Bytes, ReplicaId, TxnId};
 

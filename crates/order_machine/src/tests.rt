@@ -97,6 +97,23 @@ fn lines_of_calls(rt: HostRuntime) -> Result<(), Fail> {
 }
 
 #[test]
+fn lines_of_stops_and_inspections(rt: HostRuntime) -> Result<(), Fail> {
+    let fault = line(rt.alloc(), Observation::Fault(replica(3)?))?;
+    assert_eq!(rt; fault.as_slice(), b"1000000 fault 3".as_slice());
+    let open = line(rt.alloc(), Observation::IgnoredUp)?;
+    assert_eq!(rt; open.as_slice(), b"1000000 ignored up".as_slice());
+    let state = line(rt.alloc(), Observation::State(replica(0)?, 1))?;
+    assert_eq!(rt; state.as_slice(), b"1000000 state 0 1".as_slice());
+    let mut words = Words::new(rt.alloc());
+    words.push(Bytes::from_slice(rt.alloc(), b"d")?)?;
+    words.push(Bytes::from_slice(rt.alloc(), b"dict")?)?;
+    words.push(Bytes::from_slice(rt.alloc(), b"k=v")?)?;
+    let rows = line(rt.alloc(), Observation::Rows(words))?;
+    assert_eq!(rt; rows.as_slice(), b"1000000 rows d dict k=v".as_slice());
+    Ok(())
+}
+
+#[test]
 fn lines_of_the_order(rt: HostRuntime) -> Result<(), Fail> {
     let bare = line(rt.alloc(), Observation::Order(txn(1), Ops::new(rt.alloc())))?;
     assert_eq!(rt; bare.as_slice(), b"1000000 order 0.1.1".as_slice());

@@ -73,7 +73,8 @@ IsBuiltCall (calls.Get t name key) = IsBuiltTxn t × IsTrue (is_name name) × Is
 IsBuiltCall (calls.Set t name key value) = IsBuiltTxn t × IsTrue (is_name name) × IsTrue (is_key_word key) × IsTrue (is_value_word value)
 IsBuiltCall (calls.Commit t) = IsBuiltTxn t
 
--- Replica 0 is the one there is: each other sentence waits for a later version.
+-- Replica 0 is the one there is, and nothing stops it while its log stands in memory: each other sentence waits for a
+-- later version.
 abbrev pub IsBuilt : Event → Type 0
 IsBuilt (Boot p members) = (p ≡ 0) × (members ≡ 0 ∷ [])
 IsBuilt (Client r call) = (r ≡ 0) × IsBuiltCall call

@@ -1,6 +1,5 @@
 -- A client event whose one line is its answer.
-use Rattle.std.proofs.Common.{◌≡◌, ◌∙◌, sym, ap, subst, ℕ, List, [], ◌∷◌, Bool, true, false, Option, Some, None, MatchOption, cond, refl}
-use Rattle.std.specs.Prelude.{is_some}
+use Rattle.std.proofs.Common.{◌≡◌, ◌∙◌, sym, ap, subst, ℕ, List, [], ◌∷◌, Bool, true, false, Option, Some, None, refl}
 use Rattle.std.proofs.lemmas.Bool.{false≢true}
 use Rattle.std.proofs.lemmas.Option.{none-some, same_Some}
 use Rattle.coll_model.specs.declared.op.Kind.{Kind}
@@ -8,7 +7,6 @@ use Rattle.coll_model.specs.declared.op.Op.{Op}
 use Rattle.coll_model.specs.declared.contents.Contents.{Contents}
 use Rattle.coll_model.specs.declared.contents.Contents.TheVariants.{Dict, Queue}
 use Rattle.coll_model.specs.Effect.{State, at_key}
-use Rattle.script_text.specs.declared.event.Event.{Event}
 use Rattle.script_text.specs.declared.event.Event.TheVariants.{Client}
 use Rattle.script_text.specs.declared.event.Call.{Call}
 use Rattle.script_text.specs.declared.event.Call.TheVariants.{Begin, Make, Get, Set, Commit}
@@ -29,6 +27,10 @@ is_answer (says.View r n) = false
 is_answer (says.Active r) = false
 is_answer (says.Committed t) = false
 is_answer (says.Refused part) = false
+is_answer (says.Fault r) = false
+is_answer says.IgnoredUp = false
+is_answer (says.State r n) = false
+is_answer (says.Rows words) = false
 is_answer _ = true
 
 abbrev pub start : Machine → ℕ → Call → Observation → Option Op → Position
@@ -42,17 +44,21 @@ answer_may m r call (says.View q n) op is = absurd (false≢true is)
 answer_may m r call (says.Active q) op is = absurd (false≢true is)
 answer_may m r call (says.Committed t) op is = absurd (false≢true is)
 answer_may m r call (says.Refused part) op is = absurd (false≢true is)
-answer_may m r call (says.Txn t) op is = record { named = refl; in_rank = refl; next = refl; row = (refl, refl) }
-answer_may m r call says.Done op is = record { named = refl; in_rank = refl; next = refl; row = (refl, refl) }
-answer_may m r call (says.Down q) op is = record { named = refl; in_rank = refl; next = refl; row = (refl, refl) }
-answer_may m r call (says.NotActive q) op is = record { named = refl; in_rank = refl; next = refl; row = (refl, refl) }
-answer_may m r call (says.Ended t) op is = record { named = refl; in_rank = refl; next = refl; row = (refl, refl) }
-answer_may m r call says.True op is = record { named = refl; in_rank = refl; next = refl; row = (refl, refl) }
-answer_may m r call says.False op is = record { named = refl; in_rank = refl; next = refl; row = (refl, refl) }
-answer_may m r call (says.Value value) op is = record { named = refl; in_rank = refl; next = refl; row = (refl, refl) }
-answer_may m r call says.Missing op is = record { named = refl; in_rank = refl; next = refl; row = (refl, refl) }
-answer_may m r call says.Absent op is = record { named = refl; in_rank = refl; next = refl; row = (refl, refl) }
-answer_may m r call says.WrongKind op is = record { named = refl; in_rank = refl; next = refl; row = (refl, refl) }
+answer_may m r call (says.Fault q) op is = absurd (false≢true is)
+answer_may m r call says.IgnoredUp op is = absurd (false≢true is)
+answer_may m r call (says.State q n) op is = absurd (false≢true is)
+answer_may m r call (says.Rows words) op is = absurd (false≢true is)
+answer_may m r call (says.Txn t) op is = record { named = refl; in_rank = refl; next = refl; goes_on = refl; row = (refl, refl) }
+answer_may m r call says.Done op is = record { named = refl; in_rank = refl; next = refl; goes_on = refl; row = (refl, refl) }
+answer_may m r call (says.Down q) op is = record { named = refl; in_rank = refl; next = refl; goes_on = refl; row = (refl, refl) }
+answer_may m r call (says.NotActive q) op is = record { named = refl; in_rank = refl; next = refl; goes_on = refl; row = (refl, refl) }
+answer_may m r call (says.Ended t) op is = record { named = refl; in_rank = refl; next = refl; goes_on = refl; row = (refl, refl) }
+answer_may m r call says.True op is = record { named = refl; in_rank = refl; next = refl; goes_on = refl; row = (refl, refl) }
+answer_may m r call says.False op is = record { named = refl; in_rank = refl; next = refl; goes_on = refl; row = (refl, refl) }
+answer_may m r call (says.Value value) op is = record { named = refl; in_rank = refl; next = refl; goes_on = refl; row = (refl, refl) }
+answer_may m r call says.Missing op is = record { named = refl; in_rank = refl; next = refl; goes_on = refl; row = (refl, refl) }
+answer_may m r call says.Absent op is = record { named = refl; in_rank = refl; next = refl; goes_on = refl; row = (refl, refl) }
+answer_may m r call says.WrongKind op is = record { named = refl; in_rank = refl; next = refl; goes_on = refl; row = (refl, refl) }
 
 -- and then the event is answered
 answer_after : (m : Machine) (r : ℕ) (call : Call) (o : Observation) (op : Option Op) → is_answer o ≡ true → after (start m r call o op) o ≡ record (answering (start m r call o op) o) { rank = 6 }
@@ -62,6 +68,10 @@ answer_after m r call (says.View q n) op is = absurd (false≢true is)
 answer_after m r call (says.Active q) op is = absurd (false≢true is)
 answer_after m r call (says.Committed t) op is = absurd (false≢true is)
 answer_after m r call (says.Refused part) op is = absurd (false≢true is)
+answer_after m r call (says.Fault q) op is = absurd (false≢true is)
+answer_after m r call says.IgnoredUp op is = absurd (false≢true is)
+answer_after m r call (says.State q n) op is = absurd (false≢true is)
+answer_after m r call (says.Rows words) op is = absurd (false≢true is)
 answer_after m r call (says.Txn t) op is = refl
 answer_after m r call says.Done op is = refl
 answer_after m r call (says.Down q) op is = refl
@@ -83,7 +93,7 @@ answer_serves m r call o op Q none asked answers is holds q =
     served_from m (Client r call) (o ∷ []) (start m r call o op) Q none begins
     (record {
       may = (answer_may m r call o op is, tt);
-      complete = subst IsComplete (sym then) (record { opened = refl; grown = refl; mounted = refl; answered = refl });
+      complete = subst IsComplete (sym then) (record { opened = refl; grown = refl; mounted = refl; told = refl; answered = refl });
       holds = subst (λ p. HoldsBehind p.machine) (sym then) holds;
     })
     (subst (λ p. Q p.machine) (sym then) q)

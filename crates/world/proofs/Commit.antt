@@ -3,7 +3,7 @@ use Rattle.std.proofs.Common.{◌≡◌, ◌∙◌, sym, ap, subst, ℕ, zero, s
 use Rattle.std.specs.Option.{option_map_or}
 use Rattle.std.specs.List.{list_any}
 use Rattle.std.specs.Map.{lookup}
-use Rattle.std.proofs.lemmas.Bool.{false≢true, false_from_ne_true, or_cases, or_right}
+use Rattle.std.proofs.lemmas.Bool.{false≢true, false_from_ne_true, or_cases}
 use Rattle.std.proofs.lemmas.Grind.{flat_map-append}
 use Rattle.std.proofs.lemmas.List.Folds.{list_any-append}
 use Rattle.std.proofs.lemmas.List.Sums.{fold-append}
@@ -16,8 +16,8 @@ use Rattle.order_machine.specs.declared.observation.Observation.{Observation}
 use Rattle.order_machine.specs.declared.observation.Observation.TheVariants as says
 use Rattle.order_machine.specs.Ids.{is_txn, is_epoch}
 use Rattle.order_machine.specs.Order.{Entry, holds, before}
-use Rattle.order_machine.specs.Machine.{Machine, Txn, Role, is_live, live_txn, is_pending, is_shown, role_of, put_txn, never_opened, ops_of}
-use Rattle.order_machine.specs.Answers.{plain, answer, Replays}
+use Rattle.order_machine.specs.Machine.{Machine, Txn, Role, is_live, is_pending, is_shown, role_of, put_txn, never_opened, ops_of}
+use Rattle.order_machine.specs.Answers.{plain, Replays}
 use Rattle.order_machine.specs.Rows.{Position, May, opened, at_start, after, first_epoch}
 use Rattle.order_machine.specs.Legal.{IsWhole, moved}
 use Rattle.order_machine.proofs.Ids.{is_txn-true, is_txn_same}
@@ -68,6 +68,7 @@ order_may begins entries acknowledged txns g x new logged replays = record {
   named = refl;
   in_rank = refl;
   next = refl;
+  goes_on = refl;
   row = record {
     txn = asked_of x;
     known = rw (is_txn_same g.txn) refl;
@@ -84,6 +85,7 @@ view_may begins shown entries acknowledged txns g x all = record {
   named = refl;
   in_rank = refl;
   next = refl;
+  goes_on = refl;
   row = record {
     within = omega (arith, length-append entries (entry_of g ∷ []));
     all_that_grew = λ _. omega (arith, length-append entries (entry_of g ∷ []));
@@ -149,6 +151,7 @@ commit_may begins shown entries acknowledged txns g x each known not_held not_ac
       named = refl;
       in_rank = refl;
       next = refl;
+      goes_on = refl;
       row = record {
         pending = rw (is_txn_same g.txn, k.home, is_epoch_of g.txn k.epoch, not_acked) refl;
         shown = there;
@@ -268,7 +271,7 @@ commit_serves begins shown contents m g h =
           (commit_may begins shown h.entries h.acknowledged h.txns g x h.each known (k.not_held on) (k.not_acknowledged on) h.all_shown, tt),
         ),
       );
-      complete = record { opened = refl; grown = refl; mounted = refl; answered = is_txn_same g.txn };
+      complete = record { opened = refl; grown = refl; mounted = refl; told = refl; answered = rw (is_txn_same g.txn) refl };
       holds = holds_behind _ _ _ _ _ then;
     })
     then)

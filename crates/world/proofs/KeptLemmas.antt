@@ -1,7 +1,6 @@
 -- What each event does, in terms of what a world keeps.
 use Rattle.std.proofs.Common.{◌≡◌, ◌∙◌, sym, ap, subst, ℕ, ◌+◌, List, [], ◌∷◌, Bool, true, false, Option, Some, None, Result, Ok, Err, OnErr, refl}
-use Rattle.std.specs.Option.{option_map_or, is_some}
-use Rattle.std.specs.List.{cons_option}
+use Rattle.std.specs.Option.{is_some}
 use Rattle.std.proofs.lemmas.Bool.{false≢true}
 use Rattle.std.proofs.lemmas.Option.{none-some, same_Some}
 use Rattle.rc_base.specs.declared.ids.TxnId.{TxnId}
@@ -23,7 +22,7 @@ use Rattle.world.specs.declared.error.WorldError.{WorldError}
 use Rattle.world.specs.declared.error.WorldError.TheVariants as errors
 use Rattle.world.specs.World.{StandsFor, Serves}
 use Rattle.world.proofs.Begin.{next, going, begin_serves, unbuilt_beside, none_live}
-use Rattle.world.proofs.Commit.{lines_of, commit_serves}
+use Rattle.world.proofs.Commit.{commit_serves}
 use Rattle.world.proofs.Ended.{ended_serves}
 use Rattle.world.proofs.Replied.{replied_serves}
 

@@ -1,5 +1,5 @@
 -- A call at a booted world on a collection, of the transaction that goes on.
-use Rattle.std.proofs.Common.{◌≡◌, ◌∙◌, sym, ap, subst, ℕ, ◌-◌, List, [], ◌∷◌, ◌++◌, length, take, filter_map, flat_map, Bool, true, false, cond, ◌&&◌, Option, Some, None, MatchBool, refl, arith, ◌==◌}
+use Rattle.std.proofs.Common.{◌≡◌, ◌∙◌, sym, ap, subst, ℕ, ◌-◌, List, [], ◌∷◌, ◌++◌, length, take, filter_map, flat_map, Bool, true, false, cond, Option, Some, None, MatchBool, refl, arith}
 use Rattle.std.specs.Option.{option_map_or}
 use Rattle.std.specs.List.{cons_option}
 use Rattle.std.specs.Map.{lookup}

@@ -5,6 +5,7 @@ use Rattle.std.specs.Map.{lookup}
 use Rattle.rc_base.specs.declared.ids.TxnId.{TxnId}
 use Rattle.coll_model.specs.Effect.{State, folded}
 use Rattle.script_text.specs.declared.event.Event.{Event}
+use Rattle.script_text.specs.declared.event.Event.TheVariants.{Boot, Client}
 use Rattle.order_machine.specs.declared.observation.Observation.{Observation}
 use Rattle.order_machine.specs.Ids.{is_txn}
 use Rattle.order_machine.specs.Order.{Entry, holds}
@@ -76,6 +77,12 @@ abbrev pub StandsFor : Kept → Machine → Type 0
 StandsFor k m = MatchBool k.booted (Runs k.begins k.shown k.contents k.live m) (m ≡ empty_machine)
 
 -- ---- what an event promises
+
+-- The event is one that is done so far, at the replica that there is. Its names, keys and values may be any bytes.
+abbrev pub IsHere : Event → Type 0
+IsHere (Boot p members) = (p ≡ 0) × (members ≡ 0 ∷ [])
+IsHere (Client r call) = r ≡ 0
+IsHere _ = ⊥
 
 -- At each state that the world stands for, the lines are whole, and the world stands for the state behind them. An
 -- event that is not built at a state is refused so, and no other; no limit is reached.

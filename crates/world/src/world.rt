@@ -1,6 +1,5 @@
 ghost use Rattle.std.specs.Prelude.{◌≡◌, ◌<◌, ◌≤◌, ◌+◌, List, [], ◌∷◌, IfOk, OnOk, OnErr, Err, IsErrOf, false, true, None, Some, vec_len, option_map};
 ghost use Rattle.std.specs.Vec.{VecUnchanged};
-ghost use Rattle.script_text.specs.Sentence.{IsBuilt};
 ghost use Rattle.order_machine.specs.Answers.{txn_named};
 ghost use Rattle.order_machine.specs.declared.observation.Observation.{Observation};
 ghost use Rattle.order_machine.specs.Machine.{Machine, empty_machine};
@@ -9,7 +8,7 @@ ghost use Rattle.order_machine.specs.Legal.{IsWhole, moved};
 ghost use Rattle.script_text.specs.declared.event.Event.TheVariants.{Boot, Client};
 ghost use Rattle.script_text.specs.declared.event.Call.TheVariants.{Begin, Commit};
 ghost use Rattle.world.specs.Kept.{goes_on, ops_going, with_reply};
-ghost use Rattle.world.specs.World.{StandsFor, Serves};
+ghost use Rattle.world.specs.World.{StandsFor, IsHere, Serves};
 
 use crate::error::WorldError;
 use crate::replies::reply_at;
@@ -90,7 +89,7 @@ impl World {
         event: &Event,
     ) -> Result<Observations, WorldError>
         requires nine { vec_len fleet.old ≡ 9 }
-        requires built { IsBuilt event.now }
+        requires here { IsHere event.now }
         requires rising { self.old.last < number }
         requires within { number ≤ 1000000 }
         ensures serves { Serves self.old self.new event.now result }
@@ -101,6 +100,8 @@ impl World {
         match event {
             Event::Boot(primary, _) => self.boot(number, *primary),
             Event::Client(replica, call) => self.client(number, *replica, call),
+            Event::Arm(..) | Event::Crash(..) | Event::Reboot(_) | Event::Inspect(_) =>
+                unreachable!(),
         }
     }
 

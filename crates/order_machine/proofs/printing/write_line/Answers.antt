@@ -2,7 +2,7 @@ use Rattle.std.proofs.Common.{◌∙◌, ◌++◌, ◌∷◌, flat_map, decimal,
 use Rattle.std.proofs.lemmas.Result.{IfOk-equal}
 use Rattle.std.proofs.lemmas.List.{append_assoc}
 use Rattle.order_machine.specs.Lines.{words_of}
-use Rattle.order_machine.proofs.Words.{join-flat_map}
+use Rattle.order_machine.proofs.Joined.{join-flat_map}
 use Rattle.order_machine.proofs.printing.write_line.Goals as goal
 
 pub returns-clause-ok : goal.returns-clause-ok

@@ -5,11 +5,25 @@ use Rattle.order_machine.specs.Machine.{empty_machine}
 use Rattle.order_machine.specs.Legal.{moved_all}
 use Rattle.order_machine.specs.Lines.{lines_text}
 use Rattle.world.specs.declared.error.WorldError.{WorldError}
-use Rattle.world.specs.World.{Serves}
+use Rattle.script_text.specs.declared.event.Event.{Event}
+use Rattle.script_text.specs.declared.event.Event.TheVariants.{Boot, Client, Arm, Crash, Reboot, Inspect}
+use Rattle.script_text.specs.Sentence.{IsBuilt}
+use Rattle.world.specs.World.{IsHere, Serves}
 use Rattle.relstate.specs.Reached.{Writes}
 use Rattle.relstate.specs.declared.lines.WriteError.{WriteError}
 use Rattle.relstate.proofs.Reach.{ends_at_bad_line, after_event, event_cut_off}
 use Rattle.relstate.proofs.run.do_event.Goals as goal
+
+here : (event : Event) → IsBuilt event → IsHere event
+here (Boot p members) h = h
+here (Client r call) h = h.0
+here (Arm r calls) h = absurd h
+here (Crash r pick) h = absurd h
+here (Reboot r) h = absurd h
+here (Inspect r) h = absurd h
+
+pub event-requires-clause-here : goal.event-requires-clause-here
+event-requires-clause-here g c = here c.args.event.now c.requires.built
 
 pub returns-in-Err-Unbuilt-clause-done : goal.returns-in-Err-Unbuilt-clause-done
 returns-in-Err-Unbuilt-clause-done g c =
