@@ -56,6 +56,9 @@ impl GatedLog {
         ensures area { self.new.area ≡ self.old.area }
         ensures closed { self.new.closed ≡ is_err result }
         ensures closed_before { IsErrOf result LogError.Closed ↔ (self.old.closed ≡ true) }
+
+        // A closed log makes no call of the disk.
+        ensures untouched { self.old.closed ≡ true → disk.new ≡ disk.old }
         ensures cause { Counted (D.faults disk.old) (D.faults disk.new) (IsErrOf result LogError.Disk) }
         ensures marks { D.marks disk.new ≡ D.marks disk.old }
     {

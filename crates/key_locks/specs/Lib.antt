@@ -1,0 +1,6 @@
+pub mod Equal
+pub mod Grants
+pub mod Ids
+pub mod Laws
+pub mod Names
+pub mod Table

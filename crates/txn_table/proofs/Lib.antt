@@ -1,0 +1,6 @@
+pub mod Order
+pub mod Places
+pub mod Sorting
+pub mod Records
+pub mod Logs
+pub mod Writes
