@@ -7,7 +7,7 @@ use Rattle.std.proofs.lemmas.Bool.{ltb-false}
 use Rattle.rc_base.specs.declared.ids.Epoch.{Epoch}
 use Rattle.config_rule.specs.declared.answers.Answer.{Answer}
 use Rattle.config_rule.specs.declared.appointments.Appointed.{Appointed}
-use Rattle.config_rule.specs.Epochs.{is_epoch}
+use Rattle.rc_base.specs.Ids.{is_epoch}
 use Rattle.std.specs.Option.{option_map_or}
 use Rattle.config_rule.specs.Kept.{configuration_at}
 use Rattle.config_rule.specs.Rule.{Known, is_answer, with_answer, changed_at, appointment_of, made_active, made_current, after_active, after_activation, is_latest, broken_activation}

@@ -1,3 +1,2 @@
-pub mod Epochs
 pub mod Kept
 pub mod Rule

@@ -7,7 +7,7 @@ use Rattle.rc_base.specs.Members.{first_twice}
 use Rattle.rc_base.specs.Quorum.{read_quorum}
 use Rattle.config_rule.specs.declared.answers.Answer.{Answer}
 use Rattle.config_rule.specs.declared.appointments.Appointed.{Appointed}
-use Rattle.config_rule.specs.Epochs.{is_epoch, epoch_lt}
+use Rattle.rc_base.specs.Ids.{is_epoch, epoch_lt}
 
 -- what is known of a fleet
 pub record Known : Type 0 where

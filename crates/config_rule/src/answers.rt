@@ -1,6 +1,6 @@
 ghost use Rattle.std.specs.Prelude.{◌≡◌, [], OnOk, OnErr, position, count_by, ◌==◌, ◌&&◌};
 ghost use Rattle.std.specs.List.{list_any};
-ghost use Rattle.config_rule.specs.Epochs.{is_epoch, epoch_lt};
+ghost use Rattle.rc_base.specs.Ids.{is_epoch, epoch_lt};
 
 use rc_base::{Epoch, Lsn, NoMemory, ReplicaId};
 use std::alloc::Global;

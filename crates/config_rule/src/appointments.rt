@@ -1,6 +1,6 @@
 ghost use Rattle.std.specs.Prelude.{◌≡◌, position};
 ghost use Rattle.std.specs.List.{list_all};
-ghost use Rattle.config_rule.specs.Epochs.{is_epoch, epoch_lt};
+ghost use Rattle.rc_base.specs.Ids.{is_epoch, epoch_lt};
 ghost use Rattle.config_rule.specs.Rule as rule;
 
 use crate::answers::is_before;

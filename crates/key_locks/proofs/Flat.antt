@@ -9,9 +9,10 @@ use Rattle.rc_base.specs.declared.ids.TxnId.{TxnId}
 use Rattle.key_locks.specs.declared.lock_name.LockName.{LockName}
 use Rattle.key_locks.specs.declared.lock_mode.LockMode.{LockMode}
 use Rattle.key_locks.specs.declared.holders.Holder.{Holder}
-use Rattle.key_locks.specs.Ids.{is_txn}
+use Rattle.rc_base.specs.Ids.{is_txn}
 use Rattle.key_locks.specs.Names.{is_name}
-use Rattle.key_locks.specs.Equal.{is_name-true, is_name_same, is_txn-true, is_txn_same, is_name_equivalence}
+use Rattle.rc_base.proofs.SameIds.{is_txn-true, is_txn_same}
+use Rattle.key_locks.specs.Equal.{is_name-true, is_name_same, is_name_equivalence}
 use Rattle.key_locks.specs.Grants.{Grant, is_holder, stands_against, holders, conflict, mode_in, granted, released, Alike}
 use Rattle.key_locks.specs.Laws.{AlikeAnswerAlike, AlikeAfterGrant, AlikeAfterRelease}
 use Rattle.key_locks.specs.Table.{granted_in, others, row, RowChanges, RowsLeft, grants_of, all_grants, noted, NotedChanges, AllNoted, IsTable}

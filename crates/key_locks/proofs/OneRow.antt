@@ -8,7 +8,7 @@ use Rattle.std.proofs.lemmas.Bool.{ltb-false}
 use Rattle.rc_base.specs.declared.ids.TxnId.{TxnId}
 use Rattle.key_locks.specs.declared.lock_mode.LockMode.{LockMode}
 use Rattle.key_locks.specs.declared.holders.Holder.{Holder}
-use Rattle.key_locks.specs.Ids.{is_txn}
+use Rattle.rc_base.specs.Ids.{is_txn}
 use Rattle.key_locks.specs.Grants.{is_holder, stronger}
 use Rattle.key_locks.specs.Table.{granted_in, others}
 

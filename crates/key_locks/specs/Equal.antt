@@ -1,15 +1,16 @@
 -- The tests of names and of transactions are those of equality.
 use Rattle.std.proofs.Common.{◌≡◌, ◌∙◌, ℕ, List, true, IsTrue, Decides, eqb, refl, ap, ap₂, sym}
-use Rattle.std.proofs.lemmas.Bool.{and_parts, and_from, eqb-true, eq-eqb}
+use Rattle.std.proofs.lemmas.Bool.{and_parts, and_from}
 use Rattle.std.proofs.lemmas.Bool.Decides.{Decides-eqb}
 use Rattle.std.proofs.lemmas.Slice.Eq.{slice_eq-Decides}
 use Rattle.std.specs.Cmp.{IsEquivalence, decided}
 use Rattle.std.specs.Cmp.Lexicographic.{pointwise}
-use Rattle.rc_base.specs.declared.ids.Epoch.{Epoch}
 use Rattle.rc_base.specs.declared.ids.TxnId.{TxnId}
 use Rattle.key_locks.specs.declared.lock_name.LockName.{LockName}
 use Rattle.key_locks.specs.declared.lock_name.LockName.TheVariants.{Name, Key, Head, Tail}
-use Rattle.key_locks.specs.Ids.{is_epoch, is_txn, hashed_txn}
+use Rattle.rc_base.specs.Ids.{is_txn}
+use Rattle.rc_base.proofs.SameIds.{is_txn-true, is_txn_same}
+use Rattle.key_locks.specs.Ids.{hashed_txn}
 use Rattle.key_locks.specs.Names.{is_name, hashed}
 
 bytes_decide : (a b : List ℕ) → Decides (pointwise eqb a b) (a ≡ b)
@@ -55,24 +56,6 @@ names_decide a b = (is_name-true a b, λ e. ap (is_name a) (sym e) ∙ is_name_s
 
 pub is_name_equivalence : IsEquivalence is_name
 is_name_equivalence = decided is_name names_decide
-
-is_epoch-true : (a b : Epoch) → is_epoch a b ≡ true → a ≡ b
-is_epoch-true a b h =
-    let parts = and_parts (eqb a.loss b.loss) (eqb a.number b.number) h in
-    let same : (l n : ℕ) → Epoch = λ l n. record { loss = l; number = n } in
-    ap₂ same (eqb-true a.loss b.loss parts.0) (eqb-true a.number b.number parts.1)
-
-is_epoch_same : (a : Epoch) → is_epoch a a ≡ true
-is_epoch_same a = and_from (eqb a.loss a.loss) (eqb a.number a.number) (eq-eqb a.loss a.loss refl) (eq-eqb a.number a.number refl)
-
-pub is_txn-true : (a b : TxnId) → is_txn a b ≡ true → a ≡ b
-is_txn-true a b h =
-    let parts = and_parts (is_epoch a.epoch b.epoch) (eqb a.n b.n) h in
-    let same : (e : Epoch) (n : ℕ) → TxnId = λ e n. record { epoch = e; n = n } in
-    ap₂ same (is_epoch-true a.epoch b.epoch parts.0) (eqb-true a.n b.n parts.1)
-
-pub is_txn_same : (a : TxnId) → is_txn a a ≡ true
-is_txn_same a = and_from (is_epoch a.epoch a.epoch) (eqb a.n a.n) (is_epoch_same a.epoch) (eq-eqb a.n a.n refl)
 
 pub txns_decide : (a b : TxnId) → Decides (is_txn a b) (a ≡ b)
 txns_decide a b = (is_txn-true a b, λ e. ap (is_txn a) (sym e) ∙ is_txn_same a)

@@ -7,7 +7,7 @@ use Rattle.key_locks.specs.declared.lock_name.LockName.{LockName}
 use Rattle.key_locks.specs.declared.lock_mode.LockMode.{LockMode}
 use Rattle.key_locks.specs.declared.lock_mode.LockMode.TheVariants.{Shared, Update, Exclusive}
 use Rattle.key_locks.specs.declared.holders.Holder.{Holder}
-use Rattle.key_locks.specs.Ids.{is_txn}
+use Rattle.rc_base.specs.Ids.{is_txn}
 use Rattle.key_locks.specs.Names.{is_name}
 
 pub record Grant : Type 0 where

@@ -6,7 +6,7 @@ use Rattle.rc_base.specs.declared.ids.TxnId.{TxnId}
 use Rattle.key_locks.specs.declared.lock_name.LockName.{LockName}
 use Rattle.key_locks.specs.declared.lock_mode.LockMode.{LockMode}
 use Rattle.key_locks.specs.declared.holders.Holder.{Holder}
-use Rattle.key_locks.specs.Ids.{is_txn}
+use Rattle.rc_base.specs.Ids.{is_txn}
 use Rattle.key_locks.specs.Names.{is_name}
 use Rattle.key_locks.specs.Grants.{Grant, stronger, is_holder}
 

@@ -24,7 +24,7 @@ impl Model for Asker {
 }
 
 impl PartialEq for Asker {
-    ghost use Rattle.key_locks.specs.Ids.{is_txn};
+    ghost use Rattle.rc_base.specs.Ids.{is_txn};
     ghost use Rattle.std.specs.Cmp.{partial_equiv_from_equiv};
     ghost use Rattle.key_locks.specs.Equal.{is_txn_equivalence};
 

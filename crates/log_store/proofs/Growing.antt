@@ -12,7 +12,8 @@ use Rattle.log_records.specs.declared.record.Physical.TheVariants.{Logical, Fenc
 use Rattle.log_store.specs.declared.fold.Standing.{Standing}
 use Rattle.log_store.specs.declared.kept.Kept.{Kept}
 use Rattle.log_store.specs.declared.kept.Row.{Row}
-use Rattle.log_store.specs.Epochs.{later, no_epoch}
+use Rattle.log_store.specs.Epochs.{later}
+use Rattle.rc_base.specs.Ids.{no_epoch}
 use Rattle.log_store.specs.Payload.{records_of}
 use Rattle.log_store.specs.Fold.{Place, told, and_then, items_of, last_epoch, may_stand, step, folded, behind_items, behind_block, behind_blocks, first_wrong, judged, kept_of, kept_behind, held_by}
 use Rattle.log_store.specs.Growth.{MayCome, after_one, after, GoesOn}

@@ -6,7 +6,8 @@ use Rattle.std.proofs.lemmas.Bool.Decides.{nat_tests}
 use Rattle.rc_base.specs.declared.ids.Epoch.{Epoch}
 use Rattle.log_records.specs.declared.record.Record.{Record}
 use Rattle.log_records.specs.declared.record.Record.TheVariants.{Begin, Operation, End, Barrier, EpochStart}
-use Rattle.log_store.specs.Epochs.{epoch_lt, same_epoch, later}
+use Rattle.log_store.specs.Epochs.{later}
+use Rattle.rc_base.specs.Ids.{epoch_lt, is_epoch}
 use Rattle.log_store.specs.Fold.{may_follow}
 
 pub cases_bool : (b : Bool) → (b ≡ true) ⊎ (b ≡ false)
@@ -30,7 +31,7 @@ neither_loss e l a b = grind (arith, nat_tests)
 neither_number : (e l : Epoch) → epoch_lt e l ≡ false → epoch_lt l e ≡ false → e.number ≡ l.number
 neither_number e l a b = grind (arith, nat_tests)
 
-same_not_below : (e l : Epoch) → same_epoch e l ≡ true → epoch_lt e l ≡ false
+same_not_below : (e l : Epoch) → is_epoch e l ≡ true → epoch_lt e l ≡ false
 same_not_below e l same = grind (arith, nat_tests)
 
 above_then : (f l e : Epoch) → epoch_lt f l ≡ true → epoch_lt e l ≡ false → epoch_lt f e ≡ true
@@ -46,7 +47,7 @@ not_lower last e (Begin txn) may = same_not_below e last may
 not_lower last e (Operation txn prev op) may = same_not_below e last may
 not_lower last e (End txn prev committed) may = same_not_below e last may
 not_lower last e (Barrier stable) may = same_not_below e last may
-not_lower last e (EpochStart named) may = not_both last e (both_true (same_epoch named e) (epoch_lt last e) may)
+not_lower last e (EpochStart named) may = not_both last e (both_true (is_epoch named e) (epoch_lt last e) may)
 
 pub later_is : (a b : Epoch) (t : Bool) → epoch_lt a b ≡ t → later a b ≡ (if t then b else a)
 later_is a b t is = ap (λ (u : Bool). if u then b else a) is

@@ -10,7 +10,8 @@ use Rattle.log_records.specs.declared.record.Physical.TheVariants.{Logical, Fenc
 use Rattle.log_store.specs.declared.kept.Kept.{Kept}
 use Rattle.log_store.specs.declared.kept.Row.{Row}
 use Rattle.log_store.specs.declared.fold.Standing.{Standing}
-use Rattle.log_store.specs.Epochs.{epoch_lt, same_epoch, later, no_epoch}
+use Rattle.log_store.specs.Epochs.{later}
+use Rattle.rc_base.specs.Ids.{epoch_lt, is_epoch, no_epoch}
 use Rattle.log_store.specs.Payload.{records_of}
 
 -- where an area is wrong: its number and the place of a block
@@ -46,16 +47,16 @@ last_epoch items = last_from no_epoch items
 -- A record of this epoch may stand behind one of the last epoch: epochs don't fall, and an EpochStart, which names the new
 -- epoch, stands exactly where the epoch rises.
 abbrev pub may_follow : Epoch → Epoch → Record → Bool
-may_follow last epoch (Begin txn) = same_epoch epoch last
-may_follow last epoch (Operation txn prev op) = same_epoch epoch last
-may_follow last epoch (End txn prev committed) = same_epoch epoch last
-may_follow last epoch (Barrier stable) = same_epoch epoch last
-may_follow last epoch (EpochStart named) = same_epoch named epoch && epoch_lt last epoch
+may_follow last epoch (Begin txn) = is_epoch epoch last
+may_follow last epoch (Operation txn prev op) = is_epoch epoch last
+may_follow last epoch (End txn prev committed) = is_epoch epoch last
+may_follow last epoch (Barrier stable) = is_epoch epoch last
+may_follow last epoch (EpochStart named) = is_epoch named epoch && epoch_lt last epoch
 
 -- a record at this position may stand in the tail: a transaction begins in its own epoch, and a Barrier tells of what
 -- stands before it
 abbrev pub may_stand : ℕ → Epoch → Record → Bool
-may_stand lsn epoch (Begin txn) = same_epoch txn.epoch epoch
+may_stand lsn epoch (Begin txn) = is_epoch txn.epoch epoch
 may_stand lsn epoch (Operation txn prev op) = true
 may_stand lsn epoch (End txn prev committed) = true
 may_stand lsn epoch (Barrier stable) = nat_lt stable.0 lsn

@@ -3,7 +3,8 @@ use Rattle.std.specs.Prelude.{◌≡◌, ℕ, ◌+◌, List, [], ◌∷◌, ◌+
 use Rattle.log_records.specs.declared.record.Physical.{Physical}
 use Rattle.log_records.specs.declared.record.Physical.TheVariants.{Logical, Fence, TruncateTail, CheckpointDone, Reset, Head}
 use Rattle.log_store.specs.declared.kept.Kept.{Kept}
-use Rattle.log_store.specs.Epochs.{later, no_epoch}
+use Rattle.log_store.specs.Epochs.{later}
+use Rattle.rc_base.specs.Ids.{no_epoch}
 use Rattle.log_store.specs.Fold.{last_epoch, may_follow, may_stand}
 
 -- A Fence may always come. A logical record has the next position, an epoch that may follow, and may stand in the tail.

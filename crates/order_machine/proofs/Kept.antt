@@ -13,13 +13,13 @@ use Rattle.std.proofs.lemmas.Map.Keys.{IsDistinct-push}
 use Rattle.rc_base.specs.declared.ids.Epoch.{Epoch}
 use Rattle.rc_base.specs.declared.ids.TxnId.{TxnId}
 use Rattle.coll_model.specs.declared.op.Op.{Op}
-use Rattle.order_machine.specs.Ids.{is_epoch, is_txn, epoch_le}
+use Rattle.rc_base.specs.Ids.{is_epoch, is_txn, epoch_le}
 use Rattle.order_machine.specs.Order.{Entry, Order, empty_order, length_of, first_of, holds}
 use Rattle.order_machine.specs.Machine.{Machine, Replica, Role, Txn, Noted, Appointment, never_opened, empty_machine, replica, put_replica, order_of, role_of, txn_of, put_txn, is_shown, is_acknowledged, ops_of, ended_at, closed}
 use Rattle.order_machine.specs.Answers.{noted, begun, new_txn, one_more_begun}
 use Rattle.order_machine.specs.Laws.{IsAsked, entries_of}
 use Rattle.order_machine.specs.Rows.{ordering, acknowledging, activated, noting_active, showing}
-use Rattle.order_machine.proofs.Ids.{is_txn-true, is_txn_equivalence}
+use Rattle.rc_base.proofs.SameIds.{is_txn-true, is_txn_equivalence}
 use Rattle.order_machine.proofs.Lists.{list_any-take_more, list_any-from_take, list_any-take_added, list_any-map, AllByRecursion-push, AllByRecursion-weaker, at_each, at_each_other}
 
 -- ---- what is kept

@@ -1,6 +1,5 @@
 pub mod Behind
 pub mod Grown
-pub mod Ids
 pub mod Kept
 pub mod Lists
 pub mod OneCommit

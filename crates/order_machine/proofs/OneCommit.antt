@@ -9,7 +9,7 @@ use Rattle.script_text.specs.declared.event.Event.TheVariants.{Boot, Client}
 use Rattle.script_text.specs.declared.event.Call.TheVariants.{Begin, Commit}
 use Rattle.order_machine.specs.declared.observation.Observation.{Observation}
 use Rattle.order_machine.specs.declared.observation.Observation.TheVariants as says
-use Rattle.order_machine.specs.Ids.{is_txn}
+use Rattle.rc_base.specs.Ids.{is_txn}
 use Rattle.order_machine.specs.Machine.{Machine, Replica, Txn, empty_machine, never_opened, replica, role_of, has_role, is_active, is_pending}
 use Rattle.order_machine.specs.Rows.{HoldsBehind, first_epoch, new_role}
 use Rattle.order_machine.specs.Legal.{IsWhole, moved}

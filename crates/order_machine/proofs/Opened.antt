@@ -13,7 +13,7 @@ use Rattle.script_text.specs.declared.event.Call.{Call}
 use Rattle.script_text.specs.declared.event.Call.TheVariants.{Begin, Make, Get, Set, Commit}
 use Rattle.order_machine.specs.declared.observation.Observation.TheVariants as says
 use Rattle.order_machine.specs.declared.reply.Reply.{Reply}
-use Rattle.order_machine.specs.Ids.{is_epoch}
+use Rattle.rc_base.specs.Ids.{is_epoch}
 use Rattle.order_machine.specs.Machine.{Machine, Txn, put_txn, txn_of, role_of, replica, is_booted, is_active, is_live, live_txn, closed}
 use Rattle.order_machine.specs.Answers.{plain, answer, served, seen, reply_at, txn_named, next_txn}
 use Rattle.order_machine.specs.Rows.{refusal, opened, at_start, booting, asking, asking_commit, first_epoch, are_members}

@@ -2,8 +2,8 @@
 use Rattle.std.specs.Prelude.{◌≡◌, ℕ, ◌+◌, Bool, true, false, not, if◌then◌else◌, List, [], ◌∷◌, ◌++◌, Option, Some, None, MatchBool, option_map, is_some}
 use Rattle.std.specs.Option.{option_map_or}
 use Rattle.std.specs.List.{cons_option}
-use Rattle.rc_base.specs.declared.ids.Epoch.{Epoch}
 use Rattle.rc_base.specs.declared.ids.TxnId.{TxnId}
+use Rattle.rc_base.specs.Ids.{no_epoch}
 use Rattle.coll_model.specs.declared.op.Kind.{Kind}
 use Rattle.coll_model.specs.declared.op.Op.TheVariants as ops
 use Rattle.coll_model.specs.declared.contents.Contents.{Contents}
@@ -60,10 +60,6 @@ txn_named (Make t name kind) = Some t
 txn_named (Get t name key) = Some t
 txn_named (Set t name key value) = Some t
 txn_named (Commit t) = Some t
-
--- the epoch before the first
-abbrev pub no_epoch : Epoch
-no_epoch = record { loss = 0; number = 0 }
 
 -- the transaction that the next begin of a primary starts: the begins of an epoch count from 1
 abbrev pub next_txn : Option Role → TxnId

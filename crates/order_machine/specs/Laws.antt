@@ -7,7 +7,7 @@ use Rattle.script_text.specs.declared.event.Event.TheVariants.{Boot, Client}
 use Rattle.script_text.specs.declared.event.Call.TheVariants.{Begin, Commit}
 use Rattle.order_machine.specs.declared.observation.Observation.{Observation}
 use Rattle.order_machine.specs.declared.observation.Observation.TheVariants as says
-use Rattle.order_machine.specs.Ids.{is_txn, epoch_le}
+use Rattle.rc_base.specs.Ids.{is_txn, epoch_le}
 use Rattle.order_machine.specs.Order.{Entry, empty_order, length_of, holds}
 use Rattle.order_machine.specs.Machine.{Machine, Role, Txn, empty_machine, replica, order_of, txn_of, role_of, is_shown, is_acknowledged, ops_of}
 use Rattle.order_machine.specs.Rows.{first_epoch, HoldsBehind}

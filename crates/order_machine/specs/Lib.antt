@@ -1,5 +1,4 @@
 pub mod Contents
-pub mod Ids
 pub mod Order
 pub mod Machine
 pub mod Answers

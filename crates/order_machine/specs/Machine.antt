@@ -8,7 +8,7 @@ use Rattle.rc_base.specs.declared.ids.TxnId.{TxnId}
 use Rattle.coll_model.specs.declared.op.Op.{Op}
 use Rattle.script_text.specs.declared.event.Call.{Call}
 use Rattle.order_machine.specs.declared.observation.Observation.{Observation}
-use Rattle.order_machine.specs.Ids.{is_epoch, is_txn}
+use Rattle.rc_base.specs.Ids.{is_epoch, is_txn}
 use Rattle.order_machine.specs.Order.{Order, empty_order, holds, first_of}
 
 -- ---- what the machine keeps

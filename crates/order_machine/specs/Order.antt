@@ -4,7 +4,7 @@ use Rattle.std.specs.List.{list_any}
 use Rattle.rc_base.specs.declared.ids.TxnId.{TxnId}
 use Rattle.coll_model.specs.declared.op.Op.{Op}
 use Rattle.coll_model.specs.Effect.{State, folded}
-use Rattle.order_machine.specs.Ids.{is_txn}
+use Rattle.rc_base.specs.Ids.{is_txn}
 
 -- a committed transaction, and its operations in order
 pub record Entry : Type 0 where

@@ -12,7 +12,7 @@ use Rattle.script_text.specs.declared.event.Call.{Call}
 use Rattle.script_text.specs.declared.event.Call.TheVariants.{Begin, Commit}
 use Rattle.order_machine.specs.declared.observation.Observation.{Observation}
 use Rattle.order_machine.specs.declared.observation.Observation.TheVariants as says
-use Rattle.order_machine.specs.Ids.{is_txn, is_epoch, epoch_le}
+use Rattle.rc_base.specs.Ids.{is_txn, is_epoch, epoch_le}
 use Rattle.order_machine.specs.Order.{length_of, state_at, holds, before}
 use Rattle.order_machine.specs.Machine.{Machine, Replica, Role, Txn, Appointment, replica, put_replica, order_of, put_order, txn_of, put_txn, role_of, put_role, is_booted, is_active, is_alone, is_shown, is_acknowledged, is_live, is_pending, ops_of, closed}
 use Rattle.order_machine.specs.Contents.{rows_of}

@@ -14,7 +14,8 @@ use Rattle.txn_table.specs.declared.known.Ending.{Ending}
 use Rattle.txn_table.specs.declared.known.Ending.TheVariants.{ByEnd}
 use Rattle.txn_table.specs.declared.known.Known.{Known}
 use Rattle.txn_table.specs.declared.committed.Committed.{Committed}
-use Rattle.txn_table.specs.Commits.{Logged, commits, commits_behind, commit_in, one_or_none, is_txn, txn_lt, op_at, ops_in, ending_at, ending_in, first_of, seen, begun_at, begun, put, put_all, known, is_pending, goes_on, as_pending, pending_in, pending, to, behind}
+use Rattle.rc_base.specs.Ids.{is_txn}
+use Rattle.txn_table.specs.Commits.{Logged, commits, commits_behind, commit_in, one_or_none, txn_lt, op_at, ops_in, ending_at, ending_in, first_of, seen, begun_at, begun, put, put_all, known, is_pending, goes_on, as_pending, pending_in, pending, to, behind}
 use Rattle.txn_table.specs.Tables.{State, StandsFor, RiseBetween, IsBelow, Rise, RiseByTxn, followed, with_records, position, ending_to, trimmed, cut, ends_above, recent, lesser, greater}
 use Rattle.txn_table.proofs.Places.{all_put}
 use Rattle.txn_table.proofs.Sorting.{InOrder, order_from_rise, order_put_all, order_filter, order_map, filter_put_all, put_all_same, put_all_append}

@@ -2,7 +2,8 @@
 use Rattle.std.proofs.Common.{◌≡◌, true, false, arith}
 use Rattle.std.proofs.lemmas.Bool.Decides.{nat_tests}
 use Rattle.rc_base.specs.declared.ids.TxnId.{TxnId}
-use Rattle.txn_table.specs.Commits.{is_txn, txn_lt}
+use Rattle.rc_base.specs.Ids.{is_txn}
+use Rattle.txn_table.specs.Commits.{txn_lt}
 
 pub lt_not_txn : (a b : TxnId) → txn_lt a b ≡ true → is_txn a b ≡ false
 lt_not_txn a b h = grind (arith, nat_tests)

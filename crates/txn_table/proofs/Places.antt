@@ -5,7 +5,8 @@ use Rattle.std.specs.List.Sorted.{IsPartitionedBy}
 use Rattle.std.proofs.lemmas.Bool.Decides.{nat_tests}
 use Rattle.rc_base.specs.declared.ids.TxnId.{TxnId}
 use Rattle.txn_table.specs.declared.known.Known.{Known}
-use Rattle.txn_table.specs.Commits.{is_txn, txn_lt, put, with_txn}
+use Rattle.rc_base.specs.Ids.{is_txn}
+use Rattle.txn_table.specs.Commits.{txn_lt, put, with_txn}
 use Rattle.txn_table.specs.Tables.{Rise, place}
 use Rattle.txn_table.proofs.Order.{lt_not_txn, lt_not_same, lt_not_back, lt_back, lt_trans, same_turned}
 

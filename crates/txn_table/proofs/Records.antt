@@ -12,7 +12,8 @@ use Rattle.log_records.specs.declared.pending.PendingTxn.{PendingTxn}
 use Rattle.txn_table.specs.declared.known.Ending.{Ending}
 use Rattle.txn_table.specs.declared.known.Ending.TheVariants.{ByEnd, ByEpoch}
 use Rattle.txn_table.specs.declared.known.Known.{Known}
-use Rattle.txn_table.specs.Commits.{Logged, is_txn, op_at, ops_in, ending_at, ending_in, first_of, seen, begun_at, begun, put_all, known, is_pending, goes_on}
+use Rattle.rc_base.specs.Ids.{is_txn}
+use Rattle.txn_table.specs.Commits.{Logged, op_at, ops_in, ending_at, ending_in, first_of, seen, begun_at, begun, put_all, known, is_pending, goes_on}
 use Rattle.txn_table.specs.Tables.{followed, with_records}
 use Rattle.txn_table.proofs.Sorting.{map_put_all, put_all_append}
 

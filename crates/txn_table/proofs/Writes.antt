@@ -12,7 +12,8 @@ use Rattle.log_records.specs.declared.pending.PendingTxn.{PendingTxn}
 use Rattle.txn_table.specs.declared.known.Ending.{Ending}
 use Rattle.txn_table.specs.declared.known.Ending.TheVariants.{ByEnd}
 use Rattle.txn_table.specs.declared.known.Known.{Known}
-use Rattle.txn_table.specs.Commits.{is_txn, last_position, with_txn, ops_of, put, seen, is_pending, goes_on, as_pending, pending_in}
+use Rattle.rc_base.specs.Ids.{is_txn}
+use Rattle.txn_table.specs.Commits.{last_position, with_txn, ops_of, put, seen, is_pending, goes_on, as_pending, pending_in}
 use Rattle.txn_table.specs.Tables.{Rise, place, IsLinkedAt, followed, with_records, position, ending_to, trimmed, cut, ends_above}
 use Rattle.txn_table.proofs.Order.{same_turned}
 use Rattle.txn_table.proofs.Places.{changed, known_here, put_is, rise_put}

@@ -1,9 +1,9 @@
 -- What the records of a log say of its transactions: which are pending, and which commit with which operations.
 -- Each is found by the transaction's number alone; no link from record to record is followed.
 use Rattle.std.specs.Prelude.{◌==◌, ◌&&◌, ◌||◌, Bool, true, false, List, [], ◌∷◌, ◌++◌, map, filter, flat_map, Option, Some, None, nat_le, nat_lt, if◌then◌else◌}
-use Rattle.rc_base.specs.declared.ids.Epoch.{Epoch}
 use Rattle.rc_base.specs.declared.ids.Lsn.{Lsn}
 use Rattle.rc_base.specs.declared.ids.TxnId.{TxnId}
+use Rattle.rc_base.specs.Ids.{is_txn}
 use Rattle.coll_model.specs.declared.op.Op.{Op}
 use Rattle.log_records.specs.declared.record.Record.{Record}
 use Rattle.log_records.specs.declared.record.Record.TheVariants.{Begin, Operation, End, Barrier, EpochStart}
@@ -18,13 +18,6 @@ abbrev pub Logged : Type 0
 Logged = Lsn × Record
 
 -- ---- transactions
-
-abbrev pub is_epoch : Epoch → Epoch → Bool
-is_epoch a b = (a.loss == b.loss) && (a.number == b.number)
-
--- whether two transactions are one
-abbrev pub is_txn : TxnId → TxnId → Bool
-is_txn a b = is_epoch a.epoch b.epoch && (a.n == b.n)
 
 -- whether a transaction is below another: by losses, the number of the epoch, and its own
 abbrev pub txn_lt : TxnId → TxnId → Bool

@@ -9,7 +9,8 @@ use Rattle.txn_table.specs.declared.known.Ending.TheVariants.{ByEnd, ByEpoch}
 use Rattle.txn_table.specs.declared.known.Known.{Known}
 use Rattle.txn_table.specs.declared.error.TableError.{TableError}
 use Rattle.txn_table.specs.declared.error.TableError.TheVariants.{BadLink}
-use Rattle.txn_table.specs.Commits.{Logged, is_txn, is_pending, last_of, txn_lt, ops_in, ending_in, first_of, begun, put_all, known}
+use Rattle.rc_base.specs.Ids.{is_txn}
+use Rattle.txn_table.specs.Commits.{Logged, is_pending, last_of, txn_lt, ops_in, ending_in, first_of, begun, put_all, known}
 
 -- a table: its floor, the position of the last record that it took (the floor where there is none), and the
 -- transactions that it knows

@@ -2,7 +2,8 @@ ghost use Rattle.std.specs.Prelude.{◌≡◌, ◌<◌, ◌≤◌, ◌∷◌, []
 ghost use Rattle.rc_base.specs.declared.ids.Epoch.{Epoch};
 ghost use Rattle.log_records.specs.declared.record.Record.TheVariants.{Begin, Operation, End, EpochStart};
 ghost use Rattle.txn_table.specs.declared.known.Known.{Known};
-ghost use Rattle.txn_table.specs.Commits.{is_txn, txn_lt, with_txn, begin_fault, link_fault, fault_in, commit_in, commit_of, pending_in, seen};
+ghost use Rattle.rc_base.specs.Ids.{is_txn};
+ghost use Rattle.txn_table.specs.Commits.{txn_lt, with_txn, begin_fault, link_fault, fault_in, commit_in, commit_of, pending_in, seen};
 ghost use Rattle.txn_table.specs.Tables.{Rise, RiseByTxn, IsLinkedAt, place, RefusesExactly, with_records, cut, recent, trimmed};
 
 use crate::committed::Committed;

@@ -10,12 +10,12 @@ use Rattle.coll_model.specs.Effect.{State}
 use Rattle.script_text.specs.declared.event.Event.TheVariants.{Client}
 use Rattle.script_text.specs.declared.event.Call.TheVariants.{Begin}
 use Rattle.order_machine.specs.declared.observation.Observation.TheVariants as says
-use Rattle.order_machine.specs.Ids.{is_txn}
+use Rattle.rc_base.specs.Ids.{is_txn}
 use Rattle.order_machine.specs.Order.{Entry, holds}
 use Rattle.order_machine.specs.Machine.{Machine, Txn, is_live}
 use Rattle.order_machine.specs.Rows.{IsUnbuilt, first_epoch}
 use Rattle.order_machine.specs.Legal.{IsWhole, moved}
-use Rattle.order_machine.proofs.Ids.{is_txn-true, is_txn_same}
+use Rattle.rc_base.proofs.SameIds.{is_txn-true, is_txn_same}
 use Rattle.world.specs.declared.world.Going.{Going}
 use Rattle.world.specs.World.{running, Runs, IsKept}
 use Rattle.world.proofs.Answer.{answer_serves}

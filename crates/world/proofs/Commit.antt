@@ -14,13 +14,13 @@ use Rattle.script_text.specs.declared.event.Event.TheVariants.{Client}
 use Rattle.script_text.specs.declared.event.Call.TheVariants.{Commit}
 use Rattle.order_machine.specs.declared.observation.Observation.{Observation}
 use Rattle.order_machine.specs.declared.observation.Observation.TheVariants as says
-use Rattle.order_machine.specs.Ids.{is_txn, is_epoch}
+use Rattle.rc_base.specs.Ids.{is_txn, is_epoch}
 use Rattle.order_machine.specs.Order.{Entry, holds, before}
 use Rattle.order_machine.specs.Machine.{Machine, Txn, Role, is_live, is_pending, is_shown, role_of, put_txn, never_opened, ops_of}
 use Rattle.order_machine.specs.Answers.{plain, Replays}
 use Rattle.order_machine.specs.Rows.{Position, May, opened, at_start, after, first_epoch}
 use Rattle.order_machine.specs.Legal.{IsWhole, moved}
-use Rattle.order_machine.proofs.Ids.{is_txn-true, is_txn_same}
+use Rattle.rc_base.proofs.SameIds.{is_txn-true, is_txn_same}
 use Rattle.world.specs.declared.world.Going.{Going}
 use Rattle.world.specs.World.{running, serving, first_appointment, state_of, Runs, IsKept}
 use Rattle.world.proofs.Quiet.{holds_behind, never_there}

@@ -10,13 +10,13 @@ use Rattle.script_text.specs.declared.event.Event.TheVariants.{Client}
 use Rattle.script_text.specs.declared.event.Call.{Call}
 use Rattle.script_text.specs.declared.event.Call.TheVariants.{Begin, Make, Get, Set, Commit}
 use Rattle.order_machine.specs.declared.observation.Observation.TheVariants as says
-use Rattle.order_machine.specs.Ids.{is_txn}
+use Rattle.rc_base.specs.Ids.{is_txn}
 use Rattle.order_machine.specs.Order.{Entry}
 use Rattle.order_machine.specs.Machine.{Machine, Txn, Noted, is_live, live_txn, put_txn, role_of}
 use Rattle.order_machine.specs.Answers.{served, seen, reply_at, plain, noted, txn_named, next_txn}
 use Rattle.order_machine.specs.Rows.{asking}
 use Rattle.order_machine.specs.Legal.{IsWhole, moved}
-use Rattle.order_machine.proofs.Ids.{is_txn-true}
+use Rattle.rc_base.proofs.SameIds.{is_txn-true}
 use Rattle.world.specs.declared.world.Going.{Going}
 use Rattle.world.specs.Kept.{goes_on}
 use Rattle.world.specs.World.{running, Runs, IsKept}

@@ -15,7 +15,7 @@ use Rattle.order_machine.specs.Machine.{Machine}
 use Rattle.order_machine.specs.Answers.{reply_at, txn_named}
 use Rattle.order_machine.specs.Rows.{IsUnbuilt}
 use Rattle.order_machine.specs.Legal.{IsWhole, moved}
-use Rattle.order_machine.proofs.Ids.{is_txn-true}
+use Rattle.rc_base.proofs.SameIds.{is_txn-true}
 use Rattle.world.specs.declared.world.Going.{Going}
 use Rattle.world.specs.Kept.{Kept, goes_on, ops_going, with_reply}
 use Rattle.world.specs.declared.error.WorldError.{WorldError}

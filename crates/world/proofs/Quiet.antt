@@ -6,7 +6,7 @@ use Rattle.std.specs.Map.{lookup}
 use Rattle.std.proofs.lemmas.Bool.{false≢true}
 use Rattle.rc_base.specs.declared.ids.TxnId.{TxnId}
 use Rattle.coll_model.specs.Effect.{State}
-use Rattle.order_machine.specs.Ids.{is_txn}
+use Rattle.rc_base.specs.Ids.{is_txn}
 use Rattle.order_machine.specs.Order.{Entry}
 use Rattle.order_machine.specs.Machine.{Machine, Txn, never_opened, is_pending, is_active, is_alone, has_role}
 use Rattle.order_machine.specs.Rows.{HoldsBehind}

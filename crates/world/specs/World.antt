@@ -7,7 +7,7 @@ use Rattle.coll_model.specs.Effect.{State, folded}
 use Rattle.script_text.specs.declared.event.Event.{Event}
 use Rattle.script_text.specs.declared.event.Event.TheVariants.{Boot, Client}
 use Rattle.order_machine.specs.declared.observation.Observation.{Observation}
-use Rattle.order_machine.specs.Ids.{is_txn}
+use Rattle.rc_base.specs.Ids.{is_txn}
 use Rattle.order_machine.specs.Order.{Entry, holds}
 use Rattle.order_machine.specs.Machine.{Machine, Replica, Appointment, Txn, empty_machine, never_opened, ops_of}
 use Rattle.order_machine.specs.Answers.{Replays}

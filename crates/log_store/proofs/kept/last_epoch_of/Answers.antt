@@ -1,6 +1,6 @@
 use Rattle.std.proofs.Common.{◌+◌, ◌-◌, ◌≡◌, length, ap, sym, ◌∙◌, arith}
 use Rattle.log_store.specs.declared.kept.Row.{Row}
-use Rattle.log_store.specs.Epochs.{no_epoch}
+use Rattle.rc_base.specs.Ids.{no_epoch}
 use Rattle.log_store.proofs.Rows.{last_row}
 use Rattle.log_store.proofs.kept.last_epoch_of.Goals as goal
 

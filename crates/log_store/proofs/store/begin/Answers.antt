@@ -7,7 +7,7 @@ use Rattle.log_records.specs.declared.record.Record.{Record}
 use Rattle.rc_base.specs.declared.ids.Epoch.{Epoch}
 use Rattle.barrier_group.specs.Group.{spelled}
 use Rattle.log_store.specs.declared.kept.Kept.{Kept}
-use Rattle.log_store.specs.Epochs.{no_epoch}
+use Rattle.rc_base.specs.Ids.{no_epoch}
 use Rattle.log_store.specs.Fold.{Place}
 use Rattle.log_store.proofs.Opening.{begins, begun_each}
 use Rattle.log_store.proofs.store.begin.Goals as goal

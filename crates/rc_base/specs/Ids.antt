@@ -3,6 +3,10 @@ use Rattle.std.specs.Prelude.{Bool, ◌==◌, ◌&&◌, ◌||◌, not, nat_lt}
 use Rattle.rc_base.specs.declared.ids.Epoch.{Epoch}
 use Rattle.rc_base.specs.declared.ids.TxnId.{TxnId}
 
+-- 0.0, the epoch before the first
+abbrev pub no_epoch : Epoch
+no_epoch = record { loss = 0; number = 0 }
+
 -- whether two epochs are one
 abbrev pub is_epoch : Epoch → Epoch → Bool
 is_epoch a b = (a.loss == b.loss) && (a.number == b.number)

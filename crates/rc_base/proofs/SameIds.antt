@@ -5,7 +5,7 @@ use Rattle.std.proofs.lemmas.Bool.Decides.{nat_tests}
 use Rattle.std.specs.Cmp.{IsEquivalence}
 use Rattle.rc_base.specs.declared.ids.Epoch.{Epoch}
 use Rattle.rc_base.specs.declared.ids.TxnId.{TxnId}
-use Rattle.order_machine.specs.Ids.{is_epoch, is_txn}
+use Rattle.rc_base.specs.Ids.{is_epoch, is_txn}
 
 pub is_epoch-true : (a b : Epoch) → is_epoch a b ≡ true → a ≡ b
 is_epoch-true a b h =
