@@ -451,7 +451,7 @@ fn append_first(
 fn an_append_is_read(rt: HostRuntime) -> Result<(), Fail> {
     let alloc = rt.alloc();
     let mut disk = MemDisk::new(alloc);
-    assert_eq!(rt; append_first(&rt, alloc, &mut disk, 5)?, Ok(()));
+    assert_eq!(rt; append_first(&rt, alloc, &mut disk, 1000)?, Ok(()));
     assert!(rt; has_first(&mut disk, alloc));
     Ok(())
 }
