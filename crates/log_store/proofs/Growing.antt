@@ -15,17 +15,18 @@ use Rattle.log_store.specs.declared.kept.Row.{Row}
 use Rattle.log_store.specs.Epochs.{later}
 use Rattle.rc_base.specs.Ids.{no_epoch}
 use Rattle.log_store.specs.Payload.{records_of}
-use Rattle.log_store.specs.Fold.{Place, told, and_then, items_of, last_epoch, may_stand, step, folded, behind_items, behind_block, behind_blocks, first_wrong, judged, kept_of, kept_behind, held_by}
+use Rattle.log_store.specs.Log.{last_epoch}
+use Rattle.log_store.specs.Fold.{Place, told, and_then, items_of, step, folded, behind_items, behind_block, behind_blocks, first_wrong, judged, kept_of, kept_behind, held_by}
 use Rattle.log_store.specs.Growth.{MayCome, after_one, after, GoesOn}
 use Rattle.log_store.proofs.Order.{not_lower, later_swap, later_over}
-use Rattle.log_store.proofs.Rows.{items_of-append, length-items_of, last_from-push, right-push}
+use Rattle.log_store.proofs.Rows.{items_of-append, length-items_of, last_from-push, right-push, in_place}
 
 -- what stands behind one record that may come
 record Steps (place : ℕ) (s : Standing) (item : Physical) : Type 0 where
   next : Standing
   is : step place s item ≡ Some next
   kept : kept_of next ≡ after_one (kept_of s) item
-  right : first_wrong 1 next.rows ≡ None
+  right : first_wrong [] next.rows ≡ None
 
 both : (a b : Bool) → a ≡ true → b ≡ true → a && b ≡ true
 both a b p q = grind (arith, nat_tests)
@@ -33,7 +34,7 @@ both a b p q = grind (arith, nat_tests)
 is_same : (n m : ℕ) → n ≡ m → (n == m) ≡ true
 is_same n m e = grind (arith, nat_tests)
 
-steps : (place : ℕ) (s : Standing) (item : Physical) → MayCome (kept_of s) item → first_wrong 1 s.rows ≡ None → Steps place s item
+steps : (place : ℕ) (s : Standing) (item : Physical) → MayCome (kept_of s) item → first_wrong [] s.rows ≡ None → Steps place s item
 steps place s (Fence epoch) may right = record {
   next = record { identity = s.identity; fenced = later s.fenced epoch; rows = s.rows };
   is = refl;
@@ -46,14 +47,14 @@ steps place s (Logical lsn epoch body) may right =
     let items : items_of (s.rows ++ row ∷ []) ≡ items_of s.rows ++ (epoch, body) ∷ [] = items_of-append s.rows (row ∷ []) in
     let last : last_epoch (items_of (s.rows ++ row ∷ [])) ≡ epoch = ap last_epoch items ∙ last_from-push no_epoch (items_of s.rows) (epoch, body) in
     let fence : later s.fenced (last_epoch (items_of (s.rows ++ row ∷ []))) ≡ later (later s.fenced (last_epoch (items_of s.rows))) epoch =
-    ap (λ (e : Epoch). later s.fenced e) last ∙ sym (later_over s.fenced (last_epoch (items_of s.rows)) epoch (not_lower (last_epoch (items_of s.rows)) epoch body may.1)) in
+    ap (λ (e : Epoch). later s.fenced e) last ∙ sym (later_over s.fenced (last_epoch (items_of s.rows)) epoch (not_lower (last_epoch (items_of s.rows)) epoch body may.1.follows)) in
     let next : Standing = record { identity = s.identity; fenced = s.fenced; rows = s.rows ++ row ∷ [] } in
     record {
       next = next;
-      is = ap (λ (b : Bool). if b then Some next else None) (both _ _ (is_same _ _ position) may.1);
+      is = ap (λ (b : Bool). if b then Some next else None) (both _ _ (is_same _ _ position) may.1.follows);
       kept = ap (λ (e : Epoch). record { identity = Some s.identity; fence = e; records = items_of (s.rows ++ row ∷ []) }) fence
           ∙ ap (λ (l : List (Epoch × Record)). record { identity = Some s.identity; fence = later (later s.fenced (last_epoch (items_of s.rows))) epoch; records = l }) items;
-      right = right-push 1 s.rows row right (subst (λ (n : ℕ). may_stand n epoch body ≡ true) (omega (arith, position)) may.2);
+      right = right-push [] s.rows row right (in_place (items_of s.rows) row may.1.stands may.1.linked);
     }
 steps place s (TruncateTail lsn) may right = absurd may
 steps place s (CheckpointDone slot at len) may right = absurd may
@@ -65,9 +66,9 @@ record Folds (place : ℕ) (s : Standing) (items : List Physical) : Type 0 where
   next : Standing
   is : folded place s items ≡ Some next
   kept : kept_of next ≡ after (kept_of s) items
-  right : first_wrong 1 next.rows ≡ None
+  right : first_wrong [] next.rows ≡ None
 
-folds : (place : ℕ) (items : List Physical) (s : Standing) → GoesOn (kept_of s) items → first_wrong 1 s.rows ≡ None → Folds place s items
+folds : (place : ℕ) (items : List Physical) (s : Standing) → GoesOn (kept_of s) items → first_wrong [] s.rows ≡ None → Folds place s items
 folds place [] s goes right = record { next = s; is = refl; kept = refl; right = right }
 folds place (item ∷ items) s goes right =
     let one = steps place s item goes.0 right in
@@ -94,7 +95,7 @@ behind_append area s (first ∷ blocks) block = by (told area first.place (behin
 pub record Held (area : ℕ) (blocks : List Block) (v : Kept) : Type 0 where
   pub standing : Standing
   pub is : behind_blocks area None blocks ≡ Ok (Some standing)
-  pub right : first_wrong 1 standing.rows ≡ None
+  pub right : first_wrong [] standing.rows ≡ None
   pub kept : kept_of standing ≡ v
 
 pub ok_is : {X E : Type 0} (x y : X) → ◌≡◌ {A = Result X E} (Ok x) (Ok y) → x ≡ y
@@ -118,7 +119,7 @@ some_first area block blocks o e = by (told area block.place (behind_block None 
 pub held : (area : ℕ) (block : Block) (blocks : List Block) (v : Kept) → held_by area (block ∷ blocks) ≡ Ok v → Held area (block ∷ blocks) v
 held area block blocks v e = by (behind_blocks area None (block ∷ blocks)) refl e
   where
-    by_wrong : (s : Standing) (o : Option ℕ) → first_wrong 1 s.rows ≡ o → judged area o (kept_of s) ≡ Ok v → (first_wrong 1 s.rows ≡ None) × (kept_of s ≡ v)
+    by_wrong : (s : Standing) (o : Option ℕ) → first_wrong [] s.rows ≡ o → judged area o (kept_of s) ≡ Ok v → (first_wrong [] s.rows ≡ None) × (kept_of s ≡ v)
     by_wrong s None none is = (none, ok_is (kept_of s) v is)
     by_wrong s (Some at) some is = absurd cc
 
@@ -127,7 +128,7 @@ held area block blocks v e = by (behind_blocks area None (block ∷ blocks)) ref
     by (Ok o) was is =
         let some = some_first area block blocks o was in
         let kept : kept_behind area (Some some.0) ≡ Ok v = subst (λ (q : Option Standing). kept_behind area q ≡ Ok v) some.1 is in
-        let parts = by_wrong some.0 (first_wrong 1 some.0.rows) refl kept in
+        let parts = by_wrong some.0 (first_wrong [] some.0.rows) refl kept in
         record { standing = some.0; is = was ∙ ap (λ (q : Option Standing). Ok q) some.1; right = parts.0; kept = parts.1 }
 
 -- one more block

@@ -1,7 +1,10 @@
 pub mod Payloads
-pub mod Rows
 pub mod Order
+pub mod Rows
 pub mod Growing
 pub mod Changing
 pub mod Images
 pub mod Opening
+pub mod Logs
+pub mod Judging
+pub mod Walking

@@ -8,7 +8,7 @@ use Rattle.log_records.specs.declared.record.Record.{Record}
 use Rattle.log_records.specs.declared.record.Record.TheVariants.{Begin, Operation, End, Barrier, EpochStart}
 use Rattle.log_store.specs.Epochs.{later}
 use Rattle.rc_base.specs.Ids.{epoch_lt, is_epoch}
-use Rattle.log_store.specs.Fold.{may_follow}
+use Rattle.log_store.specs.Log.{may_follow}
 
 pub cases_bool : (b : Bool) → (b ≡ true) ⊎ (b ≡ false)
 cases_bool true = inl refl
@@ -37,7 +37,7 @@ same_not_below e l same = grind (arith, nat_tests)
 above_then : (f l e : Epoch) → epoch_lt f l ≡ true → epoch_lt e l ≡ false → epoch_lt f e ≡ true
 above_then f l e up down = grind (arith, nat_tests)
 
-both_true : (a b : Bool) → IsTrue (a && b) → b ≡ true
+pub both_true : (a b : Bool) → IsTrue (a && b) → b ≡ true
 both_true true b t = t
 both_true false b t = absurd (false≢true t)
 

@@ -1,17 +1,16 @@
 -- The fold of a log area: its blocks are read from the front, and each record may change what the area holds.
-use Rattle.std.specs.Prelude.{ℕ, ◌+◌, Bool, true, ◌&&◌, nat_le, nat_lt, List, [], ◌∷◌, ◌++◌, length, Option, Some, None, Result, Ok, Err, if◌then◌else◌, ◌==◌}
-use Rattle.std.specs.Option.{option_and_then}
-use Rattle.rc_base.specs.declared.ids.Epoch.{Epoch}
+use Rattle.std.specs.Prelude.{ℕ, ◌+◌, Bool, ◌&&◌, nat_le, List, [], ◌∷◌, ◌++◌, length, Option, Some, None, Result, Ok, Err, if◌then◌else◌, ◌==◌}
+use Rattle.std.specs.Option.{option_and_then, is_none}
 use Rattle.gated_log.specs.declared.block.Block.{Block}
-use Rattle.log_records.specs.declared.record.Record.{Record}
-use Rattle.log_records.specs.declared.record.Record.TheVariants.{Begin, Operation, End, Barrier, EpochStart}
 use Rattle.log_records.specs.declared.record.Physical.{Physical}
 use Rattle.log_records.specs.declared.record.Physical.TheVariants.{Logical, Fence, TruncateTail, CheckpointDone, Reset, Head}
 use Rattle.log_store.specs.declared.kept.Kept.{Kept}
 use Rattle.log_store.specs.declared.kept.Row.{Row}
 use Rattle.log_store.specs.declared.fold.Standing.{Standing}
 use Rattle.log_store.specs.Epochs.{later}
-use Rattle.rc_base.specs.Ids.{epoch_lt, is_epoch, no_epoch}
+use Rattle.rc_base.specs.Ids.{no_epoch}
+use Rattle.txn_table.specs.Commits.{fault_in}
+use Rattle.log_store.specs.Log.{Items, last_epoch, may_follow, may_stand, known_in}
 use Rattle.log_store.specs.Payload.{records_of}
 
 -- where an area is wrong: its number and the place of a block
@@ -28,39 +27,12 @@ abbrev pub and_then : {X Y : Type 0} → (X → Result Y Place) → Result X Pla
 and_then f (Ok x) = f x
 and_then f (Err p) = Err p
 
--- ---- records
+-- ---- rows
 
 -- the rows without their places
-abbrev pub items_of : List Row → List (Epoch × Record)
+abbrev pub items_of : List Row → Items
 items_of [] = []
 items_of (row ∷ rows) = (row.epoch, row.body) ∷ items_of rows
-
--- the epoch of the last record, or this one where there is none
-abbrev pub last_from : Epoch → List (Epoch × Record) → Epoch
-last_from epoch [] = epoch
-last_from epoch (item ∷ items) = last_from item.0 items
-
--- the epoch of the last record, 0.0 where there is none
-abbrev pub last_epoch : List (Epoch × Record) → Epoch
-last_epoch items = last_from no_epoch items
-
--- A record of this epoch may stand behind one of the last epoch: epochs don't fall, and an EpochStart, which names the new
--- epoch, stands exactly where the epoch rises.
-abbrev pub may_follow : Epoch → Epoch → Record → Bool
-may_follow last epoch (Begin txn) = is_epoch epoch last
-may_follow last epoch (Operation txn prev op) = is_epoch epoch last
-may_follow last epoch (End txn prev committed) = is_epoch epoch last
-may_follow last epoch (Barrier stable) = is_epoch epoch last
-may_follow last epoch (EpochStart named) = is_epoch named epoch && epoch_lt last epoch
-
--- a record at this position may stand in the tail: a transaction begins in its own epoch, and a Barrier tells of what
--- stands before it
-abbrev pub may_stand : ℕ → Epoch → Record → Bool
-may_stand lsn epoch (Begin txn) = is_epoch txn.epoch epoch
-may_stand lsn epoch (Operation txn prev op) = true
-may_stand lsn epoch (End txn prev committed) = true
-may_stand lsn epoch (Barrier stable) = nat_lt stable.0 lsn
-may_stand lsn epoch (EpochStart named) = true
 
 -- ---- one block
 
@@ -123,10 +95,14 @@ abbrev pub behind_blocks : ℕ → Option Standing → List Block → Result (Op
 behind_blocks area s [] = Ok s
 behind_blocks area s (block ∷ blocks) = and_then (λ t. behind_blocks area (Some t) blocks) (told area block.place (behind_block s block))
 
--- the place of the first row that may not stand in the tail. The first of the rows has this position
-abbrev pub first_wrong : ℕ → List Row → Option ℕ
-first_wrong lsn [] = None
-first_wrong lsn (row ∷ rows) = if may_stand lsn row.epoch row.body then first_wrong (lsn + 1) rows else Some row.place
+-- whether a row may stand in the tail, behind these records
+abbrev pub is_in_place : Items → Row → Bool
+is_in_place before row = may_stand (length before + 1) row.epoch row.body && is_none (fault_in (known_in before) row.body)
+
+-- the place of the first row that may not stand in the tail, where these records stand before the rows
+abbrev pub first_wrong : Items → List Row → Option ℕ
+first_wrong before [] = None
+first_wrong before (row ∷ rows) = if is_in_place before row then first_wrong (before ++ (row.epoch, row.body) ∷ []) rows else Some row.place
 
 -- what a disk holds on which there is no log
 abbrev pub no_log : Kept
@@ -143,7 +119,7 @@ judged area (Some at) kept = Err (record { area = area; at = at })
 
 abbrev pub kept_behind : ℕ → Option Standing → Result Kept Place
 kept_behind area None = Ok no_log
-kept_behind area (Some s) = judged area (first_wrong 1 s.rows) (kept_of s)
+kept_behind area (Some s) = judged area (first_wrong [] s.rows) (kept_of s)
 
 -- what these blocks of an area hold
 abbrev pub held_by : ℕ → List Block → Result Kept Place

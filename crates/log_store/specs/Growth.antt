@@ -1,16 +1,16 @@
 -- What records change that go on with a log.
-use Rattle.std.specs.Prelude.{◌≡◌, ℕ, ◌+◌, List, [], ◌∷◌, ◌++◌, length, Some, IsTrue}
+use Rattle.std.specs.Prelude.{◌≡◌, ℕ, ◌+◌, List, [], ◌∷◌, ◌++◌, length, Some}
 use Rattle.log_records.specs.declared.record.Physical.{Physical}
 use Rattle.log_records.specs.declared.record.Physical.TheVariants.{Logical, Fence, TruncateTail, CheckpointDone, Reset, Head}
 use Rattle.log_store.specs.declared.kept.Kept.{Kept}
 use Rattle.log_store.specs.Epochs.{later}
 use Rattle.rc_base.specs.Ids.{no_epoch}
-use Rattle.log_store.specs.Fold.{last_epoch, may_follow, may_stand}
+use Rattle.log_store.specs.Log.{MayStandBehind}
 
--- A Fence may always come. A logical record has the next position, an epoch that may follow, and may stand in the tail.
+-- A Fence may always come. A logical record has the next position, and may stand behind the records.
 abbrev pub MayCome : Kept → Physical → Type 0
 MayCome v (Fence epoch) = Unit {0}
-MayCome v (Logical lsn epoch body) = (lsn.0 ≡ length v.records + 1) × IsTrue (may_follow (last_epoch v.records) epoch body) × IsTrue (may_stand lsn.0 epoch body)
+MayCome v (Logical lsn epoch body) = (lsn.0 ≡ length v.records + 1) × MayStandBehind v.records epoch body
 MayCome v (TruncateTail lsn) = ⊥
 MayCome v (CheckpointDone slot at len) = ⊥
 MayCome v (Reset slot at len) = ⊥

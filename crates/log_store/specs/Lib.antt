@@ -4,5 +4,6 @@ pub mod Epochs
 pub mod Examples
 pub mod Fold
 pub mod Growth
+pub mod Log
 pub mod Payload
 pub mod Store

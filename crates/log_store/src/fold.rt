@@ -1,8 +1,12 @@
 // The fold of an area: its blocks are read from the front.
-ghost use Rattle.std.specs.Prelude.{◌≡◌, ◌==◌, ◌&&◌, ◌<◌, ◌+◌, ◌^◌, [], true, length, IfOk, Option, None, Some, Ok};
+ghost use Rattle.std.specs.Prelude.{◌≡◌, ◌==◌, ◌&&◌, ◌<◌, ◌+◌, ◌^◌, List, [], ◌∷◌, ◌++◌, true, length, IfOk, Option, None, Some, Ok};
+ghost use Rattle.std.specs.Option.{is_none};
+ghost use Rattle.txn_table.specs.Commits.{Logged, fault_in};
+ghost use Rattle.txn_table.specs.Tables.{StandsFor};
 ghost use Rattle.log_store.specs.Answers.{Finds};
 ghost use Rattle.log_store.specs.Epochs as order;
 ghost use Rattle.log_store.specs.Fold as spec;
+ghost use Rattle.log_store.specs.Log as rules;
 ghost use Rattle.log_store.specs.Fold.{told, step, folded, opening, opened, behind_block, behind_blocks, first_wrong, judged, kept_of, kept_behind, held_by};
 
 use crate::error::RecoverError;
@@ -10,9 +14,10 @@ use crate::kept::{Kept, Row, Rows, items_from, last_epoch_of};
 use crate::reading::records_at;
 use disk_model::Area;
 use gated_log::Block;
-use log_records::{Items, Physical, Record};
-use rc_base::{Epoch, Lsn};
+use log_records::{Items, Pending, Physical, Record};
+use rc_base::{Epoch, Lsn, NoMemory};
 use std::alloc::Global;
+use txn_table::{Table, TableError};
 
 // What stands behind the part of an area that was read: its identity, the greatest epoch of its Fence records, and its
 // logical records.
@@ -32,7 +37,7 @@ fn later(a: Epoch, b: Epoch) -> Epoch
 
 // Whether a record of the epoch may stand behind one of the last epoch.
 fn may_follow(last: Epoch, epoch: Epoch, body: &Record) -> bool
-    ensures { result ≡ spec.may_follow last epoch body.now }
+    ensures { result ≡ rules.may_follow last epoch body.now }
 {
     match body {
         Record::EpochStart { epoch: named } => *named == epoch && last < epoch,
@@ -42,7 +47,7 @@ fn may_follow(last: Epoch, epoch: Epoch, body: &Record) -> bool
 
 // Whether a record at this position may stand in the tail.
 fn may_stand(lsn: u64, epoch: Epoch, body: &Record) -> bool
-    ensures { result ≡ spec.may_stand lsn epoch body.now }
+    ensures { result ≡ rules.may_stand lsn epoch body.now }
 {
     match body {
         Record::Begin { txn } => txn.epoch == epoch,
@@ -53,7 +58,7 @@ fn may_stand(lsn: u64, epoch: Epoch, body: &Record) -> bool
 
 // Whether the position is the next and the epoch may follow.
 fn is_next(rows: &[Row], lsn: Lsn, epoch: Epoch, body: &Record) -> bool
-    ensures { result ≡ ((lsn.0 == length rows.now + 1) && spec.may_follow (spec.last_epoch (spec.items_of rows.now)) epoch body.now) }
+    ensures { result ≡ ((lsn.0 == length rows.now + 1) && rules.may_follow (rules.last_epoch (spec.items_of rows.now)) epoch body.now) }
 {
     lsn.0 == rows.len() as u64 + 1 && may_follow(last_epoch_of(rows), epoch, body)
 }
@@ -177,24 +182,42 @@ fn fold_blocks(
     Ok(standing)
 }
 
-// The place of the first row that may not stand in the tail.
-fn wrong_place(rows: &[Row]) -> Option<u64>
-    ensures { result ≡ first_wrong 1 rows.now }
+// Whether a row may stand in the tail at this position. The table knows the records before it, and takes its record then.
+fn is_in_place(table: &mut Table, lsn: u64, row: &Row) -> Result<bool, NoMemory>
+    requires { table.old.last.0 < lsn }
+    ensures value { IfOk result (λ b. b ≡ (rules.may_stand lsn row.now.epoch row.now.body && is_none (fault_in table.old.txns row.now.body))) }
+    ensures last { IfOk result (λ b. b ≡ true → table.new.last.0 ≡ lsn) }
+    ensures stands { (records : List Logged) → StandsFor table.old [] records → IfOk result (λ b. b ≡ true → StandsFor table.new [] (records ++ (record { 0 = lsn }, row.now.body) ∷ [])) }
 {
+    if !may_stand(lsn, row.epoch, &row.body) {
+        return Ok(false);
+    }
+    match table.take(Lsn(lsn), &row.body) {
+        Ok(_) => Ok(true),
+        Err(TableError::BadLink { .. }) => Ok(false),
+        Err(TableError::NoMemory) => Err(NoMemory),
+    }
+}
+
+// The place of the first row that may not stand in the tail.
+fn wrong_place(alloc: Global, rows: &[Row]) -> Result<Option<u64>, NoMemory>
+    ensures { IfOk result (λ at. at ≡ first_wrong [] rows.now) }
+{
+    let mut table = Table::new(alloc, Lsn(0), &Pending::new(alloc))?;
     for i in 0..rows.len() {
         let row = &rows[i];
-        if !may_stand(i as u64 + 1, row.epoch, &row.body) {
-            return Some(row.place);
+        if !is_in_place(&mut table, i as u64 + 1, row)? {
+            return Ok(Some(row.place));
         }
     }
-    None
+    Ok(None)
 }
 
 // Judges the tail of an area that was folded.
 fn judge(alloc: Global, area: Area, standing: Standing) -> Result<Kept, RecoverError>
     ensures { Finds result (kept_behind area (Some standing)) }
 {
-    if let Some(at) = wrong_place(standing.rows.as_slice()) {
+    if let Some(at) = wrong_place(alloc, standing.rows.as_slice())? {
         return Err(RecoverError::Corrupt { area, at });
     }
     let fence = later(standing.fenced, last_epoch_of(standing.rows.as_slice()));

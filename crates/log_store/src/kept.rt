@@ -1,17 +1,19 @@
 ghost use Rattle.std.specs.Prelude.{◌≡◌, [], ◌∷◌, ◌++◌, length, IfOk, OnOk};
-ghost use Rattle.log_store.specs.Fold.{items_of, last_epoch};
+ghost use Rattle.log_store.specs.Fold.{items_of};
+ghost use Rattle.log_store.specs.Log.{last_epoch};
 
 use log_records::{Items, Record};
 use rc_base::{Epoch, NoMemory};
 use std::alloc::Global;
 use std::marker::Model;
 
-// What a log area holds. It has an identity once it has a head.
+/// What a disk holds of a log: its identity, once it was begun; its fence, which is the greatest epoch among its Fence
+/// records and its records; and its records, of which the first has the position 1.
 #[derive(Drop)]
-pub(crate) struct Kept {
-    pub(crate) identity: Option<u128>,
-    pub(crate) fence: Epoch,
-    pub(crate) records: Items,
+pub struct Kept {
+    pub identity: Option<u128>,
+    pub fence: Epoch,
+    pub records: Items,
 }
 
 // A logical record and the place of the block that it stands in.

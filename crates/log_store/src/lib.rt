@@ -10,6 +10,7 @@ mod store;
 
 pub use durable::Durable;
 pub use error::RecoverError;
+pub use kept::Kept;
 pub use store::LogStore;
 
 #[cfg(test)]

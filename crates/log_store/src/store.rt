@@ -11,6 +11,7 @@ ghost use Rattle.log_store.specs.Answers.{Finds};
 ghost use Rattle.log_store.specs.Durable as spec;
 ghost use Rattle.log_store.specs.Durable.{durable, durable_of, blocks_in, StandFor, StandForOneOf, KeepsSlots};
 ghost use Rattle.log_store.specs.Growth.{GoesOn, after, new_log};
+ghost use Rattle.log_store.specs.Log.{IsLog};
 ghost use Rattle.log_store.specs.Store.{IsOpenOn, IsTaken, kept_as, KeepsOrBegins, SlotsStay};
 
 use crate::durable::Durable;
@@ -57,6 +58,7 @@ impl LogStore {
         ensures found { IfOk result (λ r. StandFor (kept_as r.0.identity r.1) (D.images disk.new)) }
         ensures opened { IfOk result (λ r. IsOpenOn r.0 (D.images disk.new)) }
         ensures not_closed { IfOk result (λ r. r.0.log.closed ≡ false) }
+        ensures log { IfOk result (λ r. IsLog r.1.records) }
         ensures corrupt { (area at : _) → IsErrOf result (errors.Corrupt area at) → Each (D.images disk.new) (λ c. durable c ≡ Err (record { area = area; at = at })) }
         ensures durable { (result ≢ Err errors.Disk) → (result ≢ Err errors.NoMemory) → Only (D.seen disk.new) (D.images disk.new) }
         ensures slots { OnOk result (SlotsStay (D.seen disk.old) (D.seen disk.new)) }
@@ -190,6 +192,7 @@ fn begin<D: Disk>(
     ensures found { IfOk result (λ r. StandFor (kept_as r.0.identity r.1) (D.images disk.new)) }
     ensures opened { IfOk result (λ r. IsOpenOn r.0 (D.images disk.new)) }
     ensures not_closed { IfOk result (λ r. r.0.log.closed ≡ false) }
+    ensures log { IfOk result (λ r. IsLog r.1.records) }
     ensures not_corrupt { (at place : _) → IsErrOf result (errors.Corrupt at place) → ⊥ }
     ensures durable { OnOk result (Only (D.seen disk.new) (D.images disk.new)) }
     ensures slots { OnOk result (SlotsStay (D.seen disk.old) (D.seen disk.new)) }

@@ -3,10 +3,11 @@ ghost use Rattle.log_store.specs.Examples.{first_items};
 
 use super::*;
 use barrier_group::Group;
+use coll_model::Op;
 use disk_model::{Area, CrashDisk, LOG0, LOG1, MemDisk};
 use gated_log::{GatedLog, LogError};
 use log_records::{Physical, Record, physical_fits};
-use rc_base::{Epoch, Lsn, NoMemory, TxnId};
+use rc_base::{Epoch, Lsn, Name, NoMemory, TxnId};
 use std::alloc::Global;
 use std::process::Abort;
 use std::test::*;
@@ -294,6 +295,38 @@ fn a_record_that_may_not_stand_in_the_tail_is_found_last(rt: HostRuntime) -> Res
     assert_eq!(rt; wrong_at(&mut disk, alloc), behind);
     write_one(alloc, &mut disk, LOG0, barrier(9, 2, 1))?;
     assert_eq!(rt; wrong_at(&mut disk, alloc), Some((0, HEAD_BLOCK + 93)));
+    Ok(())
+}
+
+// An operation at position 3 of the transaction of `begin`, which names this position before it.
+fn operation(alloc: Global, prev: u64) -> Result<Physical, NoMemory> {
+    let txn = TxnId {
+        epoch: epoch(2),
+        n: 1,
+    };
+    let op = Op::Unmake(Name::from_slice(alloc, b"d")?);
+    let prev = Lsn(prev);
+    Ok(logical(3, 2, Record::Operation { txn, prev, op }))
+}
+
+// Where a log is wrong that has this record behind an EpochStart and a Begin.
+fn wrong_behind_begin(alloc: Global, item: Physical) -> Result<Option<(u32, u64)>, LogError> {
+    let mut disk = MemDisk::new(alloc);
+    write_one(alloc, &mut disk, LOG0, head(1))?;
+    write_one(alloc, &mut disk, LOG0, epoch_start(1, 2))?;
+    write_one(alloc, &mut disk, LOG0, begin(2, 2, 2))?;
+    write_one(alloc, &mut disk, LOG0, item)?;
+    Ok(wrong_at(&mut disk, alloc))
+}
+
+#[test]
+fn a_wrong_link_is_found(rt: HostRuntime) -> Result<(), Fail> {
+    let alloc = rt.alloc();
+    // The block of the EpochStart has 31 bytes, that of the Begin 39.
+    let behind = Some((0, HEAD_BLOCK + 70));
+    assert_eq!(rt; wrong_behind_begin(alloc, operation(alloc, 2)?)?, None);
+    assert_eq!(rt; wrong_behind_begin(alloc, operation(alloc, 1)?)?, behind);
+    assert_eq!(rt; wrong_behind_begin(alloc, begin(3, 2, 2))?, behind);
     Ok(())
 }
 

@@ -92,10 +92,10 @@ AllLack-words (Boot p members) is = (search rules, (Lacks-zero p is.0, (one_memb
   one_member : (ms : List ℕ) → ms ≡ 0 ∷ [] → Lacks 32 (members_text ms)
   one_member ms e = rw e (Lacks-decimal 32 0 (lit< tt) (lit< tt))
 AllLack-words (Client r call) is = AllLack-call r call is.0 is.1
-AllLack-words (Arm r calls) is = absurd is
-AllLack-words (Crash r pick) is = absurd is
-AllLack-words (Reboot r) is = absurd is
-AllLack-words (Inspect r) is = absurd is
+AllLack-words (Arm r calls) is = (search rules, (Lacks-zero r is.0, (Lacks-decimal 32 calls (lit< tt) is.2, tt)))
+AllLack-words (Crash r pick) is = (search rules, (Lacks-zero r is.0, (Lacks-decimal 32 pick (lit< tt) is.1, tt)))
+AllLack-words (Reboot r) is = (search rules, (Lacks-zero r is, tt))
+AllLack-words (Inspect r) is = (search rules, (Lacks-zero r is, tt))
 
 some_words_at : (r : ℕ) (call : Call) → 0 < length (words_at r call)
 some_words_at r call = grind arith
@@ -126,9 +126,21 @@ line_from_words line words event cut is = record {
 pub no_line_from_words : (line : List ℕ) (words : List (List ℕ)) → words ≡ slice_split (λ b. eqb b 32) line → ((event : Event) → IsSentence words event → ⊥) → (event : Event) → Spells line event → ⊥
 no_line_from_words line words cut none event spells = none event (subst (λ ws. IsSentence ws event) (sym cut) (words_from_line line event spells))
 
--- no call begins as a boot does
+-- no call begins as an event of another form does
 no_boot : (p : ℕ) (members : List ℕ) (r : ℕ) (call : Call) → words_of (Boot p members) ≡ words_at r call → ⊥
 no_boot p members r call e = grind arith
+
+no_arm : (q n r : ℕ) (call : Call) → words_of (Arm q n) ≡ words_at r call → ⊥
+no_arm q n r call e = grind arith
+
+no_crash : (q n r : ℕ) (call : Call) → words_of (Crash q n) ≡ words_at r call → ⊥
+no_crash q n r call e = grind arith
+
+no_reboot : (q r : ℕ) (call : Call) → words_of (Reboot q) ≡ words_at r call → ⊥
+no_reboot q r call e = grind arith
+
+no_inspect : (q r : ℕ) (call : Call) → words_of (Inspect q) ≡ words_at r call → ⊥
+no_inspect q r call e = grind arith
 
 -- words are one event's
 same_call : (r : ℕ) (a b : Call) → IsBuiltCall a → IsBuiltCall b → words_at r a ≡ words_at r b → a ≡ b
@@ -147,16 +159,27 @@ same_event (Boot p members) (Boot q others) is_a is_b e = cc
 same_event (Client r call) (Client s other) is_a is_b e =
     let replicas : r ≡ s = is_a.0 ∙ sym is_b.0 in
     let calls_same : call ≡ other = same_call r call other is_a.1 is_b.1 (e ∙ ap (λ q. words_at q other) (sym replicas)) in cc
+same_event (Arm r n) (Arm s k) is_a is_b e =
+    let replicas : r ≡ s = is_a.0 ∙ sym is_b.0 in
+    let texts_same : decimal n ≡ decimal k = cc in
+    let same : n ≡ k = decimal_injective n k is_a.2 is_b.2 texts_same in cc
+same_event (Crash r n) (Crash s k) is_a is_b e =
+    let replicas : r ≡ s = is_a.0 ∙ sym is_b.0 in
+    let texts_same : decimal n ≡ decimal k = cc in
+    let same : n ≡ k = decimal_injective n k is_a.1 is_b.1 texts_same in cc
+same_event (Reboot r) (Reboot s) is_a is_b e = ap Reboot (is_a ∙ sym is_b)
+same_event (Inspect r) (Inspect s) is_a is_b e = ap Inspect (is_a ∙ sym is_b)
 same_event (Boot p members) (Client s call) is_a is_b e = absurd (no_boot p members s call e)
+same_event (Arm q n) (Client s call) is_a is_b e = absurd (no_arm q n s call e)
+same_event (Crash q n) (Client s call) is_a is_b e = absurd (no_crash q n s call e)
+same_event (Reboot q) (Client s call) is_a is_b e = absurd (no_reboot q s call e)
+same_event (Inspect q) (Client s call) is_a is_b e = absurd (no_inspect q s call e)
 same_event (Client r call) (Boot q others) is_a is_b e = absurd (no_boot q others r call (sym e))
-same_event (Arm r calls) b is_a is_b e = absurd is_a
-same_event (Crash r pick) b is_a is_b e = absurd is_a
-same_event (Reboot r) b is_a is_b e = absurd is_a
-same_event (Inspect r) b is_a is_b e = absurd is_a
-same_event a (Arm r calls) is_a is_b e = absurd is_b
-same_event a (Crash r pick) is_a is_b e = absurd is_b
-same_event a (Reboot r) is_a is_b e = absurd is_b
-same_event a (Inspect r) is_a is_b e = absurd is_b
+same_event (Client r call) (Arm q n) is_a is_b e = absurd (no_arm q n r call (sym e))
+same_event (Client r call) (Crash q n) is_a is_b e = absurd (no_crash q n r call (sym e))
+same_event (Client r call) (Reboot q) is_a is_b e = absurd (no_reboot q r call (sym e))
+same_event (Client r call) (Inspect q) is_a is_b e = absurd (no_inspect q r call (sym e))
+same_event _ _ is_a is_b e = cc
 
 pub same_from_line : (line : List ℕ) (a b : Event) → Spells line a → Spells line b → a ≡ b
 same_from_line line a b spells_a spells_b =

@@ -1,6 +1,6 @@
 -- The sentences of a script. Each event has one text: its words, with one space between each two. Numbers are decimal,
 -- without leading zeros. An epoch is LOSS.NUMBER, a transaction LOSS.NUMBER.N, and members are numbers joined by commas.
-use Rattle.std.specs.Prelude.{◌≡◌, ◌<◌, ◌^◌, ℕ, List, [], ◌∷◌, map, codes, decimal, IsTrue}
+use Rattle.std.specs.Prelude.{◌≡◌, ◌<◌, ◌≤◌, ◌^◌, ℕ, List, [], ◌∷◌, map, codes, decimal, IsTrue}
 use Rattle.std.specs.List.{join_with_byte}
 use Rattle.rc_base.specs.declared.ids.Epoch.{Epoch}
 use Rattle.rc_base.specs.declared.ids.TxnId.{TxnId}
@@ -73,15 +73,15 @@ IsBuiltCall (calls.Get t name key) = IsBuiltTxn t × IsTrue (is_name name) × Is
 IsBuiltCall (calls.Set t name key value) = IsBuiltTxn t × IsTrue (is_name name) × IsTrue (is_key_word key) × IsTrue (is_value_word value)
 IsBuiltCall (calls.Commit t) = IsBuiltTxn t
 
--- Replica 0 is the one there is, and nothing stops it while its log stands in memory: each other sentence waits for a
--- later version.
+-- Replica 0 is the one there is, and alone in its configuration. A disk is armed for its first later call, or one behind
+-- it.
 abbrev pub IsBuilt : Event → Type 0
 IsBuilt (Boot p members) = (p ≡ 0) × (members ≡ 0 ∷ [])
 IsBuilt (Client r call) = (r ≡ 0) × IsBuiltCall call
-IsBuilt (Arm r calls) = ⊥
-IsBuilt (Crash r pick) = ⊥
-IsBuilt (Reboot r) = ⊥
-IsBuilt (Inspect r) = ⊥
+IsBuilt (Arm r calls) = (r ≡ 0) × (1 ≤ calls) × (calls < 2 ^ 64)
+IsBuilt (Crash r pick) = (r ≡ 0) × (pick < 2 ^ 64)
+IsBuilt (Reboot r) = r ≡ 0
+IsBuilt (Inspect r) = r ≡ 0
 
 -- ---- lines
 

@@ -2,7 +2,8 @@ ghost use Rattle.std.specs.Prelude.{◌≡◌, codes, IfOk};
 ghost use Rattle.script_text.specs.Reading.{texts, AreReadAsCall};
 
 use crate::event::Call;
-use crate::operands::{at_key, at_name, built_kind, built_txn, value_of};
+use crate::operands::{at_key, at_name, built_kind, built_txn};
+use crate::words::value_of;
 use rc_base::NoMemory;
 use std::alloc::Global;
 

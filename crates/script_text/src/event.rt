@@ -1,6 +1,9 @@
+ghost use Rattle.std.specs.Prelude.{◌≡◌};
+
 use crate::replicas::Replicas;
 use coll_model::Kind;
 use rc_base::{Bytes, Name, ReplicaId, TxnId};
+use std::alloc::AllocError;
 
 /// One event of a script: what a client asks of a replica, or what happens to the world. There is one variant for each
 /// form of sentence that is built so far, with the sentence's words as its fields, in order; those of the clients are
@@ -34,4 +37,20 @@ pub enum Call {
     Set(TxnId, Name, Bytes, Bytes),
     /// `commit R T`: asks to commit T.
     Commit(TxnId),
+}
+
+impl Clone for Call {
+    ghost is_clone = { λ x y. y ≡ x };
+
+    fn clone(&self) -> Result<Call, AllocError> {
+        Ok(match self {
+            Call::Begin => Call::Begin,
+            Call::Make(txn, name, kind) => Call::Make(*txn, name.clone()?, *kind),
+            Call::Get(txn, name, key) => Call::Get(*txn, name.clone()?, key.clone()?),
+            Call::Set(txn, name, key, value) => {
+                Call::Set(*txn, name.clone()?, key.clone()?, value.clone()?)
+            }
+            Call::Commit(txn) => Call::Commit(*txn),
+        })
+    }
 }

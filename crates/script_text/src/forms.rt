@@ -7,6 +7,7 @@ use crate::calls::call_of;
 use crate::event::Event;
 use crate::operands::built_replica;
 use crate::replicas::Replicas;
+use crate::stops::{arm, crash, inspect, reboot};
 use rc_base::NoMemory;
 use std::alloc::Global;
 
@@ -26,6 +27,10 @@ fn event_of(alloc: Global, verb: &[u8], operands: &[&[u8]]) -> Result<Option<Eve
 {
     match verb {
         verb if verb == b"boot".as_slice() => boot(alloc, operands),
+        verb if verb == b"arm".as_slice() => Ok(arm(operands)),
+        verb if verb == b"crash".as_slice() => Ok(crash(operands)),
+        verb if verb == b"reboot".as_slice() => Ok(reboot(operands)),
+        verb if verb == b"inspect".as_slice() => Ok(inspect(operands)),
         _ => client(alloc, verb, operands),
     }
 }

@@ -7,7 +7,8 @@ mod forms;
 mod operands;
 mod read;
 mod replicas;
-mod words;
+mod stops;
+pub mod words;
 
 pub use event::{Call, Event};
 pub use read::{ScriptError, read_event};

@@ -5,9 +5,9 @@ ghost use Rattle.coll_model.specs.declared.op.Kind.TheVariants as kinds;
 ghost use Rattle.script_text.specs.Letters as letters;
 ghost use Rattle.script_text.specs.Sentence.{IsBuiltTxn, txn_text, kind_text};
 
-use crate::words::{is_key_word, is_value_word, replica, txn};
+use crate::words::{key_of, name_of, replica, txn};
 use coll_model::Kind;
-use rc_base::{Bytes, Name, NoMemory, ReplicaId, TxnId, is_name};
+use rc_base::{Bytes, Name, NoMemory, ReplicaId, TxnId};
 use std::alloc::{AllocError, Global};
 
 // Replica 0: there is no other so far.
@@ -40,36 +40,6 @@ pub(crate) fn built_kind(word: &[u8]) -> Option<Kind>
     } else {
         None
     }
-}
-
-fn name_of(alloc: Global, word: &[u8]) -> Result<Option<Name>, NoMemory>
-    ensures some { IfOk result (λ read. IfSome read (λ name. IsTrue (names.is_name name) × (word.now ≡ name))) }
-    ensures none { IfOk result (λ read. IfNone read (IsTrue (names.is_name word.now) → ⊥)) }
-{
-    if !is_name(word) {
-        return Ok(None);
-    }
-    Ok(Some(Name::from_slice(alloc, word)?))
-}
-
-fn key_of(alloc: Global, word: &[u8]) -> Result<Option<Bytes>, NoMemory>
-    ensures some { IfOk result (λ read. IfSome read (λ key. IsTrue (letters.is_key_word key) × (word.now ≡ key))) }
-    ensures none { IfOk result (λ read. IfNone read (IsTrue (letters.is_key_word word.now) → ⊥)) }
-{
-    if !is_key_word(word) {
-        return Ok(None);
-    }
-    Ok(Some(Bytes::from_slice(alloc, word)?))
-}
-
-pub(crate) fn value_of(alloc: Global, word: &[u8]) -> Result<Option<Bytes>, NoMemory>
-    ensures some { IfOk result (λ read. IfSome read (λ value. IsTrue (letters.is_value_word value) × (word.now ≡ value))) }
-    ensures none { IfOk result (λ read. IfNone read (IsTrue (letters.is_value_word word.now) → ⊥)) }
-{
-    if !is_value_word(word) {
-        return Ok(None);
-    }
-    Ok(Some(Bytes::from_slice(alloc, word)?))
 }
 
 // `T NAME`, the operands of each call in a collection.

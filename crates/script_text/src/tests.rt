@@ -45,6 +45,21 @@ fn calls_in_a_dictionary(rt: HostRuntime) -> Result<(), Fail> {
     Ok(())
 }
 
+#[test]
+fn stops_and_inspections(rt: HostRuntime) -> Result<(), Fail> {
+    let arm = read_event(rt.alloc(), b"arm 0 18446744073709551615")?;
+    assert!(rt;
+        matches!(&arm, Some(Event::Arm(r, calls)) if r.number() == 0 && *calls == 18446744073709551615)
+    );
+    let crash = read_event(rt.alloc(), b"crash 0 0")?;
+    assert!(rt; matches!(&crash, Some(Event::Crash(r, pick)) if r.number() == 0 && *pick == 0));
+    let reboot = read_event(rt.alloc(), b"reboot 0")?;
+    assert!(rt; matches!(&reboot, Some(Event::Reboot(r)) if r.number() == 0));
+    let inspect = read_event(rt.alloc(), b"inspect 0")?;
+    assert!(rt; matches!(&inspect, Some(Event::Inspect(r)) if r.number() == 0));
+    Ok(())
+}
+
 // Whether the line of a text, a letter so many times and another text is a sentence.
 fn is_sentence(
     alloc: Global,
@@ -152,6 +167,26 @@ fn bad_lines(rt: HostRuntime) {
         "set 0 0.1.1 d:e k v",
         "set 2 0.1.1 d k v",
         "add 0 0.1.1 d k v",
+        "arm 0",
+        "arm 0 0",
+        "arm 0 01",
+        "arm 0 18446744073709551616",
+        "arm 0 1 1",
+        "arm 1 1",
+        "crash 0",
+        "crash 0 +1",
+        "crash 0 00",
+        "crash 0 18446744073709551616",
+        "crash 0  1",
+        "crash\t0 1",
+        "crash 0\r1",
+        "reboot",
+        "reboot 1",
+        "reboot 0 0",
+        "inspect 0 ",
+        "inspect 0 0",
+        "inspect 9",
+        "inspect é",
     ];
     for line in lines {
         let read = read_event(rt.alloc(), line.as_bytes());

@@ -1,23 +1,29 @@
-ghost use Rattle.std.specs.Prelude.{◌≡◌, ◌==◌, ◌<◌, ◌^◌, ℕ, List, map, decimal, IfOk, IfSome, IfNone};
+//! Words, and what they are read as: each is read exactly where it is the text of such a value.
+
+ghost use Rattle.std.specs.Prelude.{◌≡◌, ◌==◌, ◌<◌, ◌^◌, ℕ, List, map, decimal, IsTrue, IfOk, IfSome, IfNone};
 ghost use Rattle.std.specs.List.{slice_split, list_all};
 ghost use Rattle.rc_base.specs.declared.ids.TxnId.{TxnId};
+ghost use Rattle.rc_base.specs.Names as names;
 ghost use Rattle.script_text.specs.Letters as letters;
 ghost use Rattle.script_text.specs.Sentence.{txn_text, IsTxn};
 ghost use Rattle.script_text.specs.Reading.{texts, txn_parts};
 
 use itoa::Buffer;
-use rc_base::{Epoch, ReplicaId, TxnId};
+use rc_base::{Bytes, Epoch, Name, NoMemory, ReplicaId, TxnId, is_name};
 use std::alloc::{AllocError, Global};
 
-// The parts of a text, between the bytes that separate them.
-pub(crate) fn parts_of(alloc: Global, separator: u8, text: &[u8]) -> Result<Vec<&[u8]>, AllocError>
+/// The parts of a text, between the bytes that separate them.
+///
+/// # Errors
+/// Want of memory.
+pub fn parts_of(alloc: Global, separator: u8, text: &[u8]) -> Result<Vec<&[u8]>, AllocError>
     ensures { IfOk result (λ v. texts v.items ≡ slice_split (λ b. b == separator) text.now) }
 {
     text.split(|b| *b == separator).collect(alloc)
 }
 
-// The number of a decimal text without leading zeros, where it is below 2^64.
-pub(crate) fn number(word: &[u8]) -> Option<u64>
+/// The number of a decimal text without leading zeros, where it is below 2^64.
+pub fn number(word: &[u8]) -> Option<u64>
     ensures some { IfSome result (λ n. (n < 2 ^ 64) × (word.now ≡ decimal n)) }
     ensures none { IfNone result ((n : ℕ) → n < 2 ^ 64 → word.now ≡ decimal n → ⊥) }
 {
@@ -45,8 +51,8 @@ pub(crate) fn short_number(word: &[u8]) -> Option<u32>
     u32::try_from(n).ok()
 }
 
-// The replica of a text: its number, 0 to 8.
-pub(crate) fn replica(word: &[u8]) -> Option<ReplicaId>
+/// The replica of a text: its number, 0 to 8.
+pub fn replica(word: &[u8]) -> Option<ReplicaId>
     ensures some { IfSome result (λ r. (r < 9) × (word.now ≡ decimal r)) }
     ensures none { IfNone result ((r : ℕ) → r < 9 → word.now ≡ decimal r → ⊥) }
 {
@@ -54,8 +60,11 @@ pub(crate) fn replica(word: &[u8]) -> Option<ReplicaId>
     ReplicaId::new(u8::try_from(n).ok()?)
 }
 
-// The transaction of a text.
-pub(crate) fn txn(alloc: Global, word: &[u8]) -> Result<Option<TxnId>, AllocError>
+/// The transaction of a text.
+///
+/// # Errors
+/// Want of memory.
+pub fn txn(alloc: Global, word: &[u8]) -> Result<Option<TxnId>, AllocError>
     ensures some { IfOk result (λ read. IfSome read (λ t. IsTxn t × (word.now ≡ txn_text t))) }
     ensures none { IfOk result (λ read. IfNone read ((t : TxnId) → IsTxn t → word.now ≡ txn_text t → ⊥)) }
 {
@@ -78,15 +87,57 @@ fn txn_of_parts(parts: &[&[u8]]) -> Option<TxnId>
     Some(TxnId { epoch, n })
 }
 
-// Whether it is a key's word: 1 to 128 letters of a key.
-pub(crate) fn is_key_word(word: &[u8]) -> bool
+/// The name of a word, where it is one.
+///
+/// # Errors
+/// Want of memory.
+pub fn name_of(alloc: Global, word: &[u8]) -> Result<Option<Name>, NoMemory>
+    ensures some { IfOk result (λ read. IfSome read (λ name. IsTrue (names.is_name name) × (word.now ≡ name))) }
+    ensures none { IfOk result (λ read. IfNone read (IsTrue (names.is_name word.now) → ⊥)) }
+{
+    if !is_name(word) {
+        return Ok(None);
+    }
+    Ok(Some(Name::from_slice(alloc, word)?))
+}
+
+/// The key of a word, where it is one.
+///
+/// # Errors
+/// Want of memory.
+pub fn key_of(alloc: Global, word: &[u8]) -> Result<Option<Bytes>, NoMemory>
+    ensures some { IfOk result (λ read. IfSome read (λ key. IsTrue (letters.is_key_word key) × (word.now ≡ key))) }
+    ensures none { IfOk result (λ read. IfNone read (IsTrue (letters.is_key_word word.now) → ⊥)) }
+{
+    if !is_key_word(word) {
+        return Ok(None);
+    }
+    Ok(Some(Bytes::from_slice(alloc, word)?))
+}
+
+/// The value of a word, where it is one.
+///
+/// # Errors
+/// Want of memory.
+pub fn value_of(alloc: Global, word: &[u8]) -> Result<Option<Bytes>, NoMemory>
+    ensures some { IfOk result (λ read. IfSome read (λ value. IsTrue (letters.is_value_word value) × (word.now ≡ value))) }
+    ensures none { IfOk result (λ read. IfNone read (IsTrue (letters.is_value_word word.now) → ⊥)) }
+{
+    if !is_value_word(word) {
+        return Ok(None);
+    }
+    Ok(Some(Bytes::from_slice(alloc, word)?))
+}
+
+/// Whether it is a key's word: 1 to 128 letters of a key.
+pub fn is_key_word(word: &[u8]) -> bool
     ensures { result ≡ letters.is_key_word word.now }
 {
     !word.is_empty() && word.len() <= 128 && has_key_letters(word)
 }
 
-// Whether it is a value's word: 1 to 1,024 letters of a key.
-pub(crate) fn is_value_word(word: &[u8]) -> bool
+/// Whether it is a value's word: 1 to 1,024 letters of a key.
+pub fn is_value_word(word: &[u8]) -> bool
     ensures { result ≡ letters.is_value_word word.now }
 {
     !word.is_empty() && word.len() <= 1024 && has_key_letters(word)

@@ -1,15 +1,20 @@
-use Rattle.std.proofs.Common.{◌≡◌, true, ℕ, List, [], Option, refl, sym, subst}
+use Rattle.std.proofs.Common.{◌≡◌, true, ℕ, List, [], ◌∷◌, Option, refl, sym, subst}
 use Rattle.rc_base.specs.declared.ids.Epoch.{Epoch}
 use Rattle.log_records.specs.declared.record.Record.{Record}
+use Rattle.log_records.specs.declared.record.Record.TheVariants.{Begin, EpochStart}
 use Rattle.log_records.specs.declared.record.Physical.{Physical}
 use Rattle.log_store.specs.declared.kept.Kept.{Kept}
-use Rattle.log_store.specs.Examples.{first_items}
+use Rattle.log_store.specs.Examples.{one, first_items}
+use Rattle.log_store.specs.Log.{MayStandBehind}
 use Rattle.log_store.specs.Growth.{GoesOn}
 use Rattle.log_store.specs.Store.{kept_as}
 use Rattle.log_store.proofs.tests.append_first.Goals as goal
 
 goes_from : (identity : Option ℕ) (fence : Epoch) → GoesOn (record { identity = identity; fence = fence; records = [] }) first_items
-goes_from identity fence = ((refl, refl, refl), ((refl, refl, refl), (tt, tt)))
+goes_from identity fence =
+    let start : MayStandBehind [] one (EpochStart one) = record { follows = refl; stands = refl; linked = refl } in
+    let begin : MayStandBehind ((one, EpochStart one) ∷ []) one (Begin (record { epoch = one; n = 1 })) = record { follows = refl; stands = refl; linked = refl } in
+    ((refl, start), ((refl, begin), (tt, tt)))
 
 first_goes : (v : Kept) → v.records ≡ [] → GoesOn v first_items
 first_goes v none = subst (λ (rs : List (Epoch × Record)). GoesOn (record { identity = v.identity; fence = v.fence; records = rs }) first_items) (sym none) (goes_from v.identity v.fence)

@@ -1,6 +1,7 @@
 use Rattle.std.proofs.Common.{◌∙◌, sym, ap, subst, arith}
 use Rattle.gated_log.specs.Log.{Log, IsSettled}
 use Rattle.log_store.proofs.Opening.{both_mounted, mounted, same_then, same_begins, none_each, chosen_first, settled_still, opened_log}
+use Rattle.log_store.proofs.Judging.{durable_log}
 use Rattle.log_store.proofs.store.LogStore.recover.Goals as goal
 
 pub begin-requires-clause-log : goal.begin-requires-clause-log
@@ -37,3 +38,6 @@ returns-clause-opened g c =
     let both = both_mounted middle new c.in_ok-log0.zero c.in_ok-log1.one c.in_ok-log0.ensures.placed c.in_ok-log1.ensures.placed c.mount-2.ensures.stop in
     opened_log middle new c.in_ok-log0.zero c.in_ok-log1.one both c.in_ok-log.log c.in_ok-log0.log0 c.in_ok-log1.log1 c.in_ok-log0.ensures.log.0 c.in_ok-log1.ensures.log.0
     c.in_ok-log0.ensures.settled c.in_ok-log1.ensures.settled c.mount-2.ensures.stop c.in_ok-log.kept c.in-Some.identity c.in_ok-log.ensures.kept c.in-Some.is c.in_ok-log.ensures.log
+
+pub returns-clause-log : goal.returns-clause-log
+returns-clause-log g c = durable_log c.in_ok-log0.zero c.in_ok-log1.one c.in_ok-log.kept c.in_ok-log.ensures.kept

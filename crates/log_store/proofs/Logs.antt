@@ -1,0 +1,103 @@
+-- Logs that grow: their rules, their transactions, and what records behind them change.
+use Rattle.std.proofs.Common.{append_assoc, ◌≡◌, ℕ, ◌+◌, List, [], ◌∷◌, ◌++◌, length, refl, sym, ap, ◌∙◌, subst, arith}
+use Rattle.std.proofs.lemmas.List.{append-nil, length-append}
+use Rattle.rc_base.specs.declared.ids.Epoch.{Epoch}
+use Rattle.log_records.specs.declared.record.Record.{Record}
+use Rattle.log_records.specs.declared.record.Physical.{Physical}
+use Rattle.log_records.specs.declared.record.Physical.TheVariants.{Logical, Fence, TruncateTail, CheckpointDone, Reset, Head}
+use Rattle.txn_table.specs.declared.known.Known.{Known}
+use Rattle.txn_table.specs.declared.committed.Committed.{Committed}
+use Rattle.txn_table.specs.Commits.{Logged, known, commits, commit_in, one_or_none}
+use Rattle.txn_table.specs.Tables.{with_records}
+use Rattle.txn_table.proofs.Records.{known_append}
+use Rattle.txn_table.proofs.Logs.{commits_push}
+use Rattle.log_store.specs.declared.kept.Kept.{Kept}
+use Rattle.log_store.specs.Log.{Items, numbered, known_in, commits_in, MayStandBehind, IsLogBehind, IsLog}
+use Rattle.log_store.specs.Growth.{MayCome, after_one, after, GoesOn}
+
+-- ---- positions
+
+-- a record at this position
+abbrev pub logged_at : ℕ → Epoch × Record → Logged
+logged_at lsn item = (record { 0 = lsn }, item.1)
+
+pub numbered-append : (lsn : ℕ) (xs ys : Items) → numbered lsn (xs ++ ys) ≡ numbered lsn xs ++ numbered (lsn + length xs) ys
+numbered-append lsn [] ys = ap (λ (n : ℕ). numbered n ys) (omega arith)
+numbered-append lsn (x ∷ xs) ys =
+    ap (λ (l : List Logged). logged_at lsn x ∷ l) (numbered-append (lsn + 1) xs ys ∙ ap (λ (n : ℕ). numbered (lsn + 1) xs ++ numbered n ys) (omega arith))
+
+-- one more record
+pub numbered-push : (log : Items) (item : Epoch × Record) → numbered 1 (log ++ item ∷ []) ≡ numbered 1 log ++ logged_at (length log + 1) item ∷ []
+numbered-push log item = numbered-append 1 log (item ∷ []) ∙ ap (λ (n : ℕ). numbered 1 log ++ logged_at n item ∷ []) (omega arith)
+
+pub known_in-push : (log : Items) (item : Epoch × Record) → known_in (log ++ item ∷ []) ≡ with_records (known_in log) (logged_at (length log + 1) item ∷ [])
+known_in-push log item = ap (λ (rs : List Logged). known [] rs) (numbered-push log item) ∙ known_append [] (numbered 1 log) (logged_at (length log + 1) item ∷ [])
+
+pub commits_in-push : (log : Items) (item : Epoch × Record) → commits_in (log ++ item ∷ []) ≡ commits_in log ++ one_or_none (commit_in (known_in log) item.1)
+commits_in-push log item = ap (λ (rs : List Logged). commits [] rs) (numbered-push log item) ∙ commits_push [] (numbered 1 log) (logged_at (length log + 1) item)
+
+-- ---- rules
+
+pub log_append : (before xs ys : Items) → IsLogBehind before xs → IsLogBehind (before ++ xs) ys → IsLogBehind before (xs ++ ys)
+log_append before [] ys first more = subst (λ (l : Items). IsLogBehind l ys) (append-nil before) more
+log_append before (x ∷ xs) ys first more = (first.0, log_append (before ++ x ∷ []) xs ys first.1 (subst (λ (l : Items). IsLogBehind l ys) (sym (append_assoc before (x ∷ []) xs)) more))
+
+-- a log stays one with a record that may stand behind it
+pub log_push : (log : Items) (epoch : Epoch) (body : Record) → IsLog log → MayStandBehind log epoch body → IsLog (log ++ (epoch, body) ∷ [])
+log_push log epoch body is may = log_append [] log ((epoch, body) ∷ []) is (may, tt)
+
+-- ---- what records behind a log change
+
+-- the logical records among these
+abbrev pub items_in : List Physical → Items
+items_in [] = []
+items_in (Logical lsn epoch body ∷ items) = (epoch, body) ∷ items_in items
+items_in (Fence epoch ∷ items) = items_in items
+items_in (TruncateTail lsn ∷ items) = items_in items
+items_in (CheckpointDone slot at len ∷ items) = items_in items
+items_in (Reset slot at len ∷ items) = items_in items
+items_in (Head generation partition ∷ items) = items_in items
+
+pub after_records : (v : Kept) (items : List Physical) → (after v items).records ≡ v.records ++ items_in items
+after_records v [] = sym (append-nil v.records)
+after_records v (Logical lsn epoch body ∷ items) = after_records (after_one v (Logical lsn epoch body)) items ∙ append_assoc v.records ((epoch, body) ∷ []) (items_in items)
+after_records v (Fence epoch ∷ items) = after_records (after_one v (Fence epoch)) items
+after_records v (TruncateTail lsn ∷ items) = after_records v items
+after_records v (CheckpointDone slot at len ∷ items) = after_records v items
+after_records v (Reset slot at len ∷ items) = after_records v items
+after_records v (Head generation partition ∷ items) = after_records v items
+
+pub after_identity : (v : Kept) (items : List Physical) → (after v items).identity ≡ v.identity
+after_identity v [] = refl
+after_identity v (Logical lsn epoch body ∷ items) = after_identity (after_one v (Logical lsn epoch body)) items
+after_identity v (Fence epoch ∷ items) = after_identity (after_one v (Fence epoch)) items
+after_identity v (TruncateTail lsn ∷ items) = after_identity v items
+after_identity v (CheckpointDone slot at len ∷ items) = after_identity v items
+after_identity v (Reset slot at len ∷ items) = after_identity v items
+after_identity v (Head generation partition ∷ items) = after_identity v items
+
+-- the records of a log from this position on
+abbrev pub placed : ℕ → Items → List Physical
+placed lsn [] = []
+placed lsn (item ∷ items) = Logical (record { 0 = lsn }) item.0 item.1 ∷ placed (lsn + 1) items
+
+pub after_items : (v : Kept) (lsn : ℕ) (items : Items) → (after v (placed lsn items)).records ≡ v.records ++ items
+after_items v lsn [] = sym (append-nil v.records)
+after_items v lsn (item ∷ items) = after_items (after_one v (Logical (record { 0 = lsn }) item.0 item.1)) (lsn + 1) items ∙ append_assoc v.records (item ∷ []) items
+
+-- records that may stand behind a log, at the next positions, go on with it
+pub goes_on_items : (v : Kept) (lsn : ℕ) (items : Items) → lsn ≡ length v.records + 1 → IsLogBehind v.records items → GoesOn v (placed lsn items)
+goes_on_items v lsn [] at may = tt
+goes_on_items v lsn (item ∷ items) at may =
+    let next : Kept = after_one v (Logical (record { 0 = lsn }) item.0 item.1) in
+    ((at, may.0), goes_on_items next (lsn + 1) items (omega (arith, at, length-append v.records (item ∷ []))) may.1)
+
+-- records that go on with a log keep it one
+pub goes_on_log : (v : Kept) (items : List Physical) → IsLog v.records → GoesOn v items → IsLog (after v items).records
+goes_on_log v [] is goes = is
+goes_on_log v (Logical lsn epoch body ∷ items) is goes = goes_on_log (after_one v (Logical lsn epoch body)) items (log_push v.records epoch body is goes.0.1) goes.1
+goes_on_log v (Fence epoch ∷ items) is goes = goes_on_log (after_one v (Fence epoch)) items is goes.1
+goes_on_log v (TruncateTail lsn ∷ items) is goes = absurd goes.0
+goes_on_log v (CheckpointDone slot at len ∷ items) is goes = absurd goes.0
+goes_on_log v (Reset slot at len ∷ items) is goes = absurd goes.0
+goes_on_log v (Head generation partition ∷ items) is goes = absurd goes.0

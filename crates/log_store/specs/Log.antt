@@ -1,0 +1,74 @@
+-- The rules of a log: which record may stand behind the others.
+use Rattle.std.specs.Prelude.{◌≡◌, ℕ, ◌+◌, Bool, true, false, ◌&&◌, nat_lt, List, [], ◌∷◌, ◌++◌, length, None, IsTrue}
+use Rattle.rc_base.specs.declared.ids.Epoch.{Epoch}
+use Rattle.rc_base.specs.Ids.{epoch_lt, is_epoch, no_epoch}
+use Rattle.log_records.specs.declared.record.Record.{Record}
+use Rattle.log_records.specs.declared.record.Record.TheVariants.{Begin, Operation, End, Barrier, EpochStart}
+use Rattle.txn_table.specs.declared.committed.Committed.{Committed}
+use Rattle.txn_table.specs.declared.known.Known.{Known}
+use Rattle.txn_table.specs.Commits.{Logged, known, commits, fault_in}
+
+-- a log: its records with the epochs in which they were logged. The first has the position 1
+abbrev pub Items : Type 0
+Items = List (Epoch × Record)
+
+-- ---- what may follow
+
+-- the epoch of the last record, or this one where there is none
+abbrev pub last_from : Epoch → Items → Epoch
+last_from epoch [] = epoch
+last_from epoch (item ∷ items) = last_from item.0 items
+
+-- the epoch of the last record, 0.0 where there is none
+abbrev pub last_epoch : Items → Epoch
+last_epoch items = last_from no_epoch items
+
+-- A record of this epoch may stand behind one of the last epoch: epochs don't fall, and an EpochStart, which names the new
+-- epoch, stands exactly where the epoch rises.
+abbrev pub may_follow : Epoch → Epoch → Record → Bool
+may_follow last epoch (Begin txn) = is_epoch epoch last
+may_follow last epoch (Operation txn prev op) = is_epoch epoch last
+may_follow last epoch (End txn prev committed) = is_epoch epoch last
+may_follow last epoch (Barrier stable) = is_epoch epoch last
+may_follow last epoch (EpochStart named) = is_epoch named epoch && epoch_lt last epoch
+
+-- a record at this position may stand in the tail: a transaction begins in its own epoch, and a Barrier tells of what
+-- stands before it
+abbrev pub may_stand : ℕ → Epoch → Record → Bool
+may_stand lsn epoch (Begin txn) = is_epoch txn.epoch epoch
+may_stand lsn epoch (Operation txn prev op) = true
+may_stand lsn epoch (End txn prev committed) = true
+may_stand lsn epoch (Barrier stable) = nat_lt stable.0 lsn
+may_stand lsn epoch (EpochStart named) = true
+
+-- ---- transactions
+
+-- the records with their positions, the first of which has this one
+abbrev pub numbered : ℕ → Items → List Logged
+numbered lsn [] = []
+numbered lsn (item ∷ items) = (record { 0 = lsn }, item.1) ∷ numbered (lsn + 1) items
+
+-- the transactions that begin in a log, and what it says of them
+abbrev pub known_in : Items → List Known
+known_in log = known [] (numbered 1 log)
+
+-- the transactions that a log commits, in order
+abbrev pub commits_in : Items → List Committed
+commits_in log = commits [] (numbered 1 log)
+
+-- ---- the rules
+
+-- A record may stand behind a log: its epoch may follow, its position and its transaction's epoch are in order, and it
+-- names the record of its transaction before it.
+pub record MayStandBehind (log : Items) (epoch : Epoch) (body : Record) : Type 0 where
+  pub follows : IsTrue (may_follow (last_epoch log) epoch body)
+  pub stands : IsTrue (may_stand (length log + 1) epoch body)
+  pub linked : fault_in (known_in log) body ≡ None
+
+-- each record may stand behind these and the ones before it
+abbrev pub IsLogBehind : Items → Items → Type 0
+IsLogBehind before [] = Unit {0}
+IsLogBehind before (item ∷ items) = MayStandBehind before item.0 item.1 × IsLogBehind (before ++ item ∷ []) items
+
+abbrev pub IsLog : Items → Type 0
+IsLog log = IsLogBehind [] log
