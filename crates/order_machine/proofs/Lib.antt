@@ -8,3 +8,8 @@ pub mod Reading
 pub mod Runs
 pub mod Steps
 pub mod Joined
+pub mod Wrongs
+pub mod SaidWords
+pub mod EachWord
+pub mod FormWords
+pub mod LineWords

@@ -52,7 +52,7 @@ Lacks-txn_text t h = Lacks-joined 32 46 (txn_parts t) refl (AllLack-txn_parts 32
 -- ---- operations
 
 -- whether two words are one
-is_word : List ℕ → List ℕ → Bool
+unfoldable pub is_word : List ℕ → List ℕ → Bool
 is_word [] [] = true
 is_word [] (y ∷ ys) = false
 is_word (x ∷ xs) [] = false
@@ -89,7 +89,7 @@ Lacks-plain word h =
     )
 
 -- no part has a colon, and none a space
-AllLack-op_parts : (op : Op) → IsPlainOp op → AllLack 32 (op_parts op) × AllLack 58 (op_parts op)
+pub AllLack-op_parts : (op : Op) → IsPlainOp op → AllLack 32 (op_parts op) × AllLack 58 (op_parts op)
 AllLack-op_parts (Make name kinds.Dict) h = let n = Lacks-plain name h in ((search rules, (n.0, (search rules, tt))), (search rules, (n.1, (search rules, tt))))
 AllLack-op_parts (Make name kinds.Queue) h = let n = Lacks-plain name h in ((search rules, (n.0, (search rules, tt))), (search rules, (n.1, (search rules, tt))))
 AllLack-op_parts (Unmake name) h = let n = Lacks-plain name h in ((search rules, (n.0, tt)), (search rules, (n.1, tt)))
@@ -108,7 +108,7 @@ AllLack-op_parts (Push name value) h =
     ((search rules, (n.0, (v.0, tt))), (search rules, (n.1, (v.1, tt))))
 AllLack-op_parts (Pop name) h = let n = Lacks-plain name h in ((search rules, (n.0, tt)), (search rules, (n.1, tt)))
 
-some_parts : (op : Op) → 0 < length (op_parts op)
+pub some_parts : (op : Op) → 0 < length (op_parts op)
 some_parts (Make name kind) = lit< tt
 some_parts (Unmake name) = lit< tt
 some_parts (Put name key value) = lit< tt
@@ -215,7 +215,7 @@ AllLack-words_of (says.Rows words) h = (search rules, AllLack-plain words (recur
 
 -- ---- lines
 
-split-line_text : (n : ℕ) (o : Observation) → n < 2 ^ 64 → IsPrintable o → slice_split (λ x. eqb x 32) (line_text n o) ≡ decimal n ∷ words_of o
+pub split-line_text : (n : ℕ) (o : Observation) → n < 2 ^ 64 → IsPrintable o → slice_split (λ x. eqb x 32) (line_text n o) ≡ decimal n ∷ words_of o
 split-line_text n o h printable =
     parts_from_joined 32 (line_text n o) (decimal n ∷ words_of o) (omega arith) (Lacks-decimal 32 n (lit< tt) h, AllLack-words_of o printable) refl
 

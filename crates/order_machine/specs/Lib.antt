@@ -5,4 +5,7 @@ pub mod Answers
 pub mod Rows
 pub mod Legal
 pub mod Lines
+pub mod Said
+pub mod ReadBack
+pub mod WordReading
 pub mod Laws

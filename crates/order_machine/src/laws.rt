@@ -1,5 +1,6 @@
 ghost use Rattle.order_machine.specs.Laws as laws;
 ghost use Rattle.order_machine.specs.Lines as lines;
+ghost use Rattle.order_machine.specs.Said as said;
 
 /// The order of committed transactions is only ever added to, at its end: by each event, whatever the machine it
 /// meets, and so by each run.
@@ -45,7 +46,9 @@ pub fn one_commit_is_whole()
     ensures { laws.OneCommitIsWhole }
 {}
 
-/// A printed line has one reading: its number and its observation can be told from its text.
+/// A printed line has one reading: its number and its observation can be told from its text. So has each line that
+/// `read_obs` reads.
 pub fn lines_read_once()
-    ensures { lines.LinesReadOnce }
+    ensures printed { lines.LinesReadOnce }
+    ensures told { said.LinesToldOnce }
 {}

@@ -2,11 +2,17 @@
 //! machine that every run is a run of, and which lines each event may have.
 #![tactic(auto)]
 
+mod form;
 mod laws;
+mod list_words;
 mod observation;
 mod observations;
+mod op_words;
+mod operands;
+mod parsing;
 mod printing;
 mod reply;
+mod word_error;
 mod word_list;
 
 pub use laws::{
@@ -16,6 +22,7 @@ pub use laws::{
 };
 pub use observation::Observation;
 pub use observations::Observations;
+pub use parsing::read_obs;
 pub use printing::print;
 pub use reply::Reply;
 pub use word_list::Words;

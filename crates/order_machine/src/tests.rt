@@ -1,5 +1,6 @@
 use super::*;
 use coll_model::{Kind, Op, Ops};
+use log_records::CodecError;
 use rc_base::{Bytes, Epoch, Name, NoMemory, ReplicaId, TxnId};
 use std::alloc::Global;
 use std::test::*;
@@ -40,10 +41,14 @@ fn each_op(alloc: Global) -> Result<Ops, NoMemory> {
     Ok(ops)
 }
 
-fn line(alloc: Global, observation: Observation) -> Result<Vec<u8>, NoMemory> {
+// The line of an observation, read back and printed again.
+fn line(alloc: Global, observation: Observation) -> Result<Vec<u8>, Fail> {
     let mut out = Vec::new(alloc);
     print(1_000_000, &observation, &mut out)?;
-    Ok(out)
+    let (number, read) = read_obs(alloc, &out)?;
+    let mut again = Vec::new(alloc);
+    print(number, &read, &mut again)?;
+    Ok(again)
 }
 
 #[test]
@@ -137,4 +142,58 @@ fn a_line_behind_another(rt: HostRuntime) -> Result<(), Fail> {
     }
     assert_eq!(rt; out.as_slice(), b"1 active 0\n1 ok\n".as_slice());
     Ok(())
+}
+
+#[test]
+fn beginnings_of_lines(rt: HostRuntime) {
+    let lines = [
+        "1000000 committed 0.1.1",
+        "10 state 8 1",
+        "2 ignored up",
+        "3 wrongkind",
+    ];
+    for line in lines {
+        for end in 0..line.len() {
+            let read = read_obs(rt.alloc(), &line.as_bytes()[..end]);
+            assert!(rt; matches!(read, Err(CodecError::Bad { .. })), "{line}");
+        }
+    }
+}
+
+#[test]
+fn places_of_wrong_words(rt: HostRuntime) {
+    let lines = [
+        ("", 0),
+        ("ok", 0),
+        ("01 ok", 0),
+        ("18446744073709551616 ok", 0),
+        ("7", 1),
+        ("7 ", 2),
+        ("7  ok", 2),
+        ("7 Ok", 2),
+        ("7 ok\n", 2),
+        ("7 ok ", 5),
+        ("7 ok 7", 5),
+        ("7 up", 4),
+        ("7 up 9", 5),
+        ("7 up 00", 5),
+        ("7 up 0 0", 7),
+        ("7 view 0 +1", 9),
+        ("7 refused 256", 10),
+        ("7 committed 0.1", 12),
+        ("7 committed 4294967296.1.1", 12),
+        ("7 value", 7),
+        ("7 value k=v", 8),
+        ("7 rows d k=v=w", 9),
+        ("7 ignored down", 10),
+        ("7 order 0.1.1 push:d:v pop:D", 23),
+        ("7 order 0.1.1 make:d:list", 14),
+    ];
+    for (line, place) in lines {
+        let read = read_obs(rt.alloc(), line.as_bytes());
+        assert!(rt;
+            matches!(read, Err(CodecError::Bad { at }) if at == place),
+            "{line}"
+        );
+    }
 }
