@@ -1,0 +1,5 @@
+pub mod Lengthened
+pub mod OneMore
+pub mod OneRecord
+pub mod Opening
+pub mod Stepped

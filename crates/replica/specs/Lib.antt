@@ -1,0 +1,5 @@
+pub mod Examples
+pub mod Logging
+pub mod Open
+pub mod Reading
+pub mod Step

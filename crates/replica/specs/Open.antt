@@ -1,0 +1,118 @@
+-- An open replica: what it keeps, and when that agrees with its log.
+use Rattle.std.specs.Prelude.{◌≡◌, ℕ, ◌+◌, ◌≤◌, max, Bool, true, false, List, [], ◌∷◌, ◌++◌, length, take, map, flat_map, Option, Some, None, if◌then◌else◌, ◌==◌}
+use Rattle.std.specs.Option.{option_map_or}
+use Rattle.rc_base.specs.declared.ids.Epoch.{Epoch}
+use Rattle.rc_base.specs.declared.ids.Lsn.{Lsn}
+use Rattle.rc_base.specs.declared.ids.TxnId.{TxnId}
+use Rattle.rc_base.specs.Ids.{epoch_le, is_txn}
+use Rattle.coll_model.specs.declared.op.Op.{Op}
+use Rattle.coll_model.specs.Effect.{State, folded}
+use Rattle.log_records.specs.declared.record.Record.{Record}
+use Rattle.log_records.specs.declared.record.Record.TheVariants.{Begin, Operation, End, Barrier, EpochStart}
+use Rattle.txn_table.specs.declared.committed.Committed.{Committed}
+use Rattle.txn_table.specs.declared.known.Known.{Known}
+use Rattle.txn_table.specs.Commits.{with_txn, is_pending, last_of}
+use Rattle.log_store.specs.declared.kept.Kept.{Kept}
+use Rattle.log_store.specs.Store.{Store}
+use Rattle.log_store.specs.Log.{Items, last_epoch, known_in, commits_in}
+use Rattle.replica.specs.declared.going.Going.{Going}
+use Rattle.replica.specs.declared.role.Role.{Role}
+use Rattle.replica.specs.declared.role.Role.TheVariants.{Other, Primary}
+
+-- ---- what it keeps
+
+-- Its number; its log; its fence; the epoch and the position of the last record; the stable position, and how many
+-- commits stand at or below it; their state, which is what the replica shows; that state with what goes on; the commits
+-- above the stable position; its role, and how many transactions it began in it; and the transaction that goes on.
+pub record Open : Type 0 where
+  pub id : ℕ
+  pub log : Store
+  pub fence : Epoch
+  pub epoch : Epoch
+  pub last : Lsn
+  pub stable : Lsn
+  pub shown : ℕ
+  pub contents : State
+  pub seen : State
+  pub ahead : List Committed
+  pub role : Role
+  pub begins : ℕ
+  pub live : Option Going
+
+-- ---- what a log shows
+
+-- what a Barrier tells as stable
+abbrev pub stable_told : Record → ℕ
+stable_told (Begin txn) = 0
+stable_told (Operation txn prev op) = 0
+stable_told (End txn prev committed) = 0
+stable_told (Barrier stable) = stable.0
+stable_told (EpochStart epoch) = 0
+
+-- the greatest position that a Barrier of the log tells
+abbrev pub stable_in : Items → ℕ
+stable_in [] = 0
+stable_in (item ∷ items) = max (stable_told item.1) (stable_in items)
+
+-- the commits of the log at or below a position
+abbrev pub commits_to : ℕ → Items → List Committed
+commits_to lsn log = commits_in (take lsn log)
+
+-- the commits that a replica shows once the log was opened
+abbrev pub shown_in : Items → List Committed
+shown_in log = commits_to (stable_in log) log
+
+-- the state behind commits
+abbrev pub state_of : List Committed → State
+state_of commits = folded [] (flat_map (λ c. c.ops) commits)
+
+-- ---- when it agrees with its log
+
+-- the operations of the transaction that goes on
+abbrev pub ops_going : Option Going → List Op
+ops_going live = option_map_or (λ going. going.ops) live []
+
+-- The log knows what goes on as the replica does: not at all before its first record, and then as pending, with the same
+-- last record and operations.
+abbrev pub IsKnownAs : Going → Option Known → Type 0
+IsKnownAs going None = (going.last.0 ≡ 0) × (going.ops ≡ [])
+IsKnownAs going (Some known) = (1 ≤ going.last.0) × (is_pending known ≡ true) × (last_of known ≡ going.last) × (map (λ o. o.1) known.ops ≡ going.ops)
+
+-- A transaction goes on at a primary alone, which began it in its epoch.
+pub record GoesOnIn (r : Open) (log : Items) (going : Going) : Type 0 where
+  pub active : r.role ≡ Primary r.epoch true
+  pub epoch : going.txn.epoch ≡ r.epoch
+  pub begun : going.txn.n ≤ r.begins
+  pub known : IsKnownAs going (with_txn going.txn (known_in log))
+
+abbrev pub IsGoing : Open → Items → Option Going → Type 0
+IsGoing r log None = Unit {0}
+IsGoing r log (Some going) = GoesOnIn r log going
+
+-- A primary that is alone is active. All of its log is stable, and it counts the transactions of its epoch.
+pub record IsPrimary (r : Open) (log : Items) (epoch : Epoch) (serves : Bool) : Type 0 where
+  pub last_one : epoch ≡ r.epoch
+  pub active : serves ≡ true
+  pub stable : r.stable ≡ r.last
+  pub shown : r.ahead ≡ []
+  pub counted : (txn : TxnId) (known : Known) → with_txn txn (known_in log) ≡ Some known → txn.epoch ≡ r.epoch → txn.n ≤ r.begins
+
+abbrev pub HasRole : Open → Items → Role → Type 0
+HasRole r log Other = Unit {0}
+HasRole r log (Primary epoch active) = IsPrimary r log epoch active
+
+-- What an open replica keeps is told by its log.
+pub record AgreesWith (r : Open) (kept : Kept) : Type 0 where
+  pub identity : kept.identity ≡ Some r.log.identity
+  pub fence : kept.fence ≡ r.fence
+  pub epoch : last_epoch kept.records ≡ r.epoch
+  pub last : length kept.records ≡ r.last.0
+  pub stable_told : stable_in kept.records ≤ r.stable.0
+  pub stable_there : r.stable.0 ≤ r.last.0
+  pub shown : length (commits_to r.stable.0 kept.records) ≡ r.shown
+  pub contents : state_of (commits_to r.stable.0 kept.records) ≡ r.contents
+  pub commits : commits_in kept.records ≡ commits_to r.stable.0 kept.records ++ r.ahead
+  pub seen : folded r.contents (ops_going r.live) ≡ r.seen
+  pub epochs : (txn : TxnId) (known : Known) → with_txn txn (known_in kept.records) ≡ Some known → epoch_le txn.epoch r.epoch ≡ true
+  pub role : HasRole r kept.records r.role
+  pub live : IsGoing r kept.records r.live

@@ -1,0 +1,28 @@
+use crate::commits::Commits;
+use crate::txn_ids::TxnIds;
+use order_machine::Observation;
+use rc_base::Epoch;
+use script_text::Call;
+
+/// What happens at an open replica.
+#[derive(Debug, Drop)]
+pub enum StepEvent {
+    /// A client's call.
+    Client(Call),
+    /// The replica is appointed as the primary of an epoch, alone.
+    Start { epoch: Epoch },
+    /// Behind a step of a primary that became active or shows more: it logs its stable position.
+    Barrier,
+}
+
+/// What a step tells: the answer to a call; the commits that are shown by it, in order; those that are acknowledged by
+/// it; how many commits the replica shows then; whether it is an active primary; and whether a Barrier is to follow.
+#[derive(Debug, Drop)]
+pub struct Outcome {
+    pub answer: Option<Observation>,
+    pub commits: Commits,
+    pub acknowledged: TxnIds,
+    pub shown: u64,
+    pub active: bool,
+    pub barrier_due: bool,
+}
