@@ -1,2 +1,4 @@
 pub mod Steps
+pub mod Calls
+pub mod Disks
 pub mod Reach

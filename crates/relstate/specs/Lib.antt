@@ -1,4 +1,5 @@
 pub mod Text
 pub mod Script
+pub mod Fleet
 pub mod Ran
 pub mod Reached

@@ -1,13 +1,14 @@
 //! The program: a script of events from standard input, its transcript to standard output.
 #![tactic(auto)]
 
-ghost use Rattle.std.specs.Prelude.{◌≡◌, IfOk, vec_len};
+ghost use Rattle.std.specs.Prelude.{◌≡◌, All, IfOk, vec_len};
+ghost use Rattle.relstate.specs.Fleet.{IsFresh};
 
 mod kit;
 mod lines;
 mod run;
 
-use disk_model::MemDisk;
+use disk_model::{CrashDisk, Disk, MemDisk};
 pub use kit::Kit;
 use rc_io::{MemHost, ReadSource, WriteSink};
 pub use run::run;
@@ -51,7 +52,8 @@ fn main(rt: HostRuntime) -> ExitCode {
 
 // Nine empty disks in memory.
 fn nine_disks(alloc: Global) -> Result<Vec<MemDisk>, AllocError>
-    ensures { IfOk result (λ fleet. vec_len fleet ≡ 9) }
+    ensures nine { IfOk result (λ fleet. vec_len fleet ≡ 9) }
+    ensures fresh { IfOk result (λ fleet. All (IsFresh ⟦<MemDisk as Disk>⟧.images ⟦<MemDisk as Disk>⟧.faults ⟦<MemDisk as Disk>⟧.marks ⟦<MemDisk as Disk>⟧.calls_left) fleet.items) }
 {
     let mut fleet = Vec::new(alloc);
     for _ in 0..9usize {

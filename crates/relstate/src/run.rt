@@ -1,7 +1,10 @@
-ghost use Rattle.std.specs.Prelude.{◌≡◌, ◌≢◌, ◌↔◌, ◌++◌, ◌∷◌, [], ◌<◌, ◌≤◌, ◌⊎◌, ℕ, List, map, codes, string_bytes, vec_len, Some, None, IsTrue, IfNone, IfSome, length, sum_by, ◌+◌};
-ghost use Rattle.std.specs.Vec.{VecUnchanged};
+ghost use Rattle.std.specs.Prelude.{◌≡◌, ◌≢◌, ◌↔◌, ◌++◌, ◌∷◌, [], ◌<◌, ◌≤◌, ◌⊎◌, ℕ, List, All, map, codes, string_bytes, vec_len, Some, None, IsTrue, IfNone, IfSome, length, sum_by, ◌+◌};
 ghost use Rattle.rc_base.specs.Counts.{Counted, Rose};
+ghost use Rattle.order_machine.specs.Machine.{Machine};
+ghost use Rattle.world.specs.Fleet.{images_of};
+ghost use Rattle.world.specs.World.{StandsFor};
 ghost use Rattle.relstate.specs.Text as text;
+ghost use Rattle.relstate.specs.Fleet.{IsFresh, Keeps};
 ghost use Rattle.relstate.specs.Ran.{Ran, Begins, IsClean};
 ghost use Rattle.rc_io.specs.Lines.{line_text};
 ghost use Rattle.rc_io.specs.Limits.{limit_in};
@@ -16,11 +19,20 @@ use script_text::{Event, ScriptError, read_event};
 use std::alloc::Global;
 use world::{World, WorldError};
 
-/// Runs the command that the words name, over a source of its input, a sink for its output, nine disks in memory and a
-/// host of disks in folders, and answers the status with which the program ends.
+/// Runs the command that the words name, over a source of its input, a sink for its output, nine disks in memory that were
+/// never called and a host of disks in folders, and answers the status with which the program ends.
 ///
 /// `world` reads a script from the source and writes its transcript: for every list of bytes that the source gives, the
-/// transcript is one run of the order machine.
+/// transcript is one run of the order machine. Its events are done on the disks of the fleet, the first of which is that
+/// of replica 0. However the run ends, each of these is promised:
+///
+/// | Of the disks | Promised |
+/// |---|---|
+/// | what they hold | once the world was booted, a write quorum of its configuration holds the order as far as it is acknowledged, each transaction in its place and with its operations, whatever a stop would leave of these disks then |
+/// | how they failed | each disk has failed at least as often as the lines say `fault` of its replica |
+/// | how they were called | each disk was armed and stopped as often, and the last time with that number, as the `arm` and `crash` that were answered `ok` say; where memory was wanted, that of the next line may count too |
+///
+/// Words that are no command leave the disks as they are.
 ///
 /// | Status | Comes |
 /// |---|---|
@@ -40,7 +52,8 @@ pub fn run<S: Source, K: Sink, M: CrashDisk, H: Host>(
     host: &mut H,
     kit: Kit,
 ) -> u8
-    requires { vec_len fleet.old ≡ 9 }
+    requires nine { vec_len fleet.old ≡ 9 }
+    requires fresh { All (IsFresh M.images M.faults M.marks M.calls_left) fleet.old.items }
 
     // The words of a command: `world` alone.
     ensures words { result ≡ 2 → map string_bytes words.now ≢ codes "world" ∷ [] }
@@ -48,9 +61,9 @@ pub fn run<S: Source, K: Sink, M: CrashDisk, H: Host>(
     ensures usage_text { (held : List ℕ) → map string_bytes words.now ≢ codes "world" ∷ [] → K.holds sink.old ≡ Some held →
         (written : List ℕ) × (K.holds sink.new ≡ Some (held ++ written)) × Begins written text.usage × (result ≡ 2 → written ≡ text.usage) }
 
-    // The transcript is one run of the order machine.
+    // The transcript is one run of the order machine, whose events were done on the disks of the fleet.
     ensures ran { (input held : List ℕ) → map string_bytes words.now ≡ codes "world" ∷ [] → S.left source.old ≡ Some input → K.holds sink.old ≡ Some held →
-        (written : List ℕ) × (K.holds sink.new ≡ Some (held ++ written)) × Ran input result written }
+        (written : List ℕ) × (K.holds sink.new ≡ Some (held ++ written)) × (ran : Ran input result written) × Keeps M.images M.faults M.marks fleet.old.items fleet.new.items ran.steps ran.left result }
 
     // An input without a bad line and within the limits is done to its end, where neither the source nor the sink fails.
     ensures complete { (input held : List ℕ) → map string_bytes words.now ≡ codes "world" ∷ [] → S.left source.old ≡ Some input → K.holds sink.old ≡ Some held →
@@ -60,8 +73,8 @@ pub fn run<S: Source, K: Sink, M: CrashDisk, H: Host>(
     ensures source_fault { Counted (S.faults source.old) (S.faults source.new) (result ≡ 4) }
     ensures sink_fault { Counted (K.faults sink.old) (K.faults sink.new) (result ≡ 5) }
 
-    // No disk is called yet.
-    ensures disks { VecUnchanged fleet.old fleet.new }
+    // No other words call a disk.
+    ensures idle { map string_bytes words.now ≢ codes "world" ∷ [] → fleet.new.items ≡ fleet.old.items }
     ensures folders { host.new ≡ host.old }
 {
     let _ = host;
@@ -93,13 +106,13 @@ fn run_world<S: Source, K: Sink, M: CrashDisk>(
     sink: &mut K,
     fleet: &mut Vec<M>,
 ) -> u8
-    requires { vec_len fleet.old ≡ 9 }
+    requires nine { vec_len fleet.old ≡ 9 }
+    requires fresh { All (IsFresh M.images M.faults M.marks M.calls_left) fleet.old.items }
     ensures status { result ≢ 2 }
     ensures ran { (input held : List ℕ) → S.left source.old ≡ Some input → K.holds sink.old ≡ Some held →
-        HasEnded input held result (K.holds sink.new) }
+        HasEnded M.images M.faults M.marks input held fleet.old.items fleet.new.items result (K.holds sink.new) }
     ensures source_fault { Counted (S.faults source.old) (S.faults source.new) (result ≡ 4) }
     ensures sink_fault { Counted (K.faults sink.old) (K.faults sink.new) (result ≡ 5) }
-    ensures disks { VecUnchanged fleet.old fleet.new }
 {
     let Ok(mut reader) = LineReader::new(alloc) else {
         return 8;
@@ -154,13 +167,15 @@ fn do_line<K: Sink, M: CrashDisk>(
     requires nine { vec_len fleet.old ≡ 9 }
     requires rising { world.old.last < number }
     requires within { number ≤ 1000000 }
-    ensures done { (input held holds : List ℕ) (before left : List (List ℕ)) (raw : List ℕ) → line.now ≡ line_text raw → number ≡ length before + 1 →
-        limit_in (length before) (sum_by length before) raw ≡ None → Done input held before (raw ∷ left) world.old holds → K.holds sink.old ≡ Some holds →
-        GoesOn input held (before ++ raw ∷ []) left world.new (K.holds sink.new) result }
+    requires stands { (m : Machine) × StandsFor world.old (images_of M.images fleet.old.items 0) m }
+    ensures done { (input held holds : List ℕ) (before left : List (List ℕ)) (raw : List ℕ) (first : List M) → line.now ≡ line_text raw → number ≡ length before + 1 →
+        limit_in (length before) (sum_by length before) raw ≡ None → Done M.images M.faults M.marks input held before (raw ∷ left) first fleet.old.items world.old holds → K.holds sink.old ≡ Some holds →
+        GoesOn M.images M.faults M.marks input held (before ++ raw ∷ []) left first fleet.new.items world.new (K.holds sink.new) result }
     ensures last { IfNone result (world.new.last ≤ number) }
     ensures status { IfSome result (λ status. (status ≢ 0) × (status ≢ 2) × (status ≢ 4)) }
     ensures sink_fault { Counted (K.faults sink.old) (K.faults sink.new) (result ≡ Some 5) }
-    ensures disks { VecUnchanged fleet.old fleet.new }
+    ensures nine { vec_len fleet.new ≡ 9 }
+    ensures stands { IfNone result ((m : Machine) × StandsFor world.new (images_of M.images fleet.new.items 0) m) }
 {
     match read_event(alloc, line) {
         Ok(None) => None,
@@ -183,13 +198,15 @@ fn do_event<K: Sink, M: CrashDisk>(
     requires built { IsBuilt event.now }
     requires rising { world.old.last < number }
     requires within { number ≤ 1000000 }
-    ensures done { (input held holds : List ℕ) (before left : List (List ℕ)) (raw : List ℕ) → Spells (line_text raw) event.now → number ≡ length before + 1 →
-        limit_in (length before) (sum_by length before) raw ≡ None → Done input held before (raw ∷ left) world.old holds → K.holds sink.old ≡ Some holds →
-        GoesOn input held (before ++ raw ∷ []) left world.new (K.holds sink.new) result }
+    requires stands { (m : Machine) × StandsFor world.old (images_of M.images fleet.old.items 0) m }
+    ensures done { (input held holds : List ℕ) (before left : List (List ℕ)) (raw : List ℕ) (first : List M) → Spells (line_text raw) event.now → number ≡ length before + 1 →
+        limit_in (length before) (sum_by length before) raw ≡ None → Done M.images M.faults M.marks input held before (raw ∷ left) first fleet.old.items world.old holds → K.holds sink.old ≡ Some holds →
+        GoesOn M.images M.faults M.marks input held (before ++ raw ∷ []) left first fleet.new.items world.new (K.holds sink.new) result }
     ensures last { IfNone result (world.new.last ≡ number) }
     ensures status { IfSome result (λ status. (status ≢ 0) × (status ≢ 2) × (status ≢ 4)) }
     ensures sink_fault { Counted (K.faults sink.old) (K.faults sink.new) (result ≡ Some 5) }
-    ensures disks { VecUnchanged fleet.old fleet.new }
+    ensures nine { vec_len fleet.new ≡ 9 }
+    ensures stands { IfNone result ((m : Machine) × StandsFor world.new (images_of M.images fleet.new.items 0) m) }
 {
     let lines = match world.event(fleet, number, event) {
         Ok(lines) => lines,

@@ -1,6 +1,7 @@
 ghost use Rattle.std.specs.Prelude.{◌≡◌, IfOk, vec_len};
 
 use super::*;
+use itoa::Buffer;
 use rc_io::{MemSink, MemSource};
 use std::test::*;
 
@@ -144,6 +145,122 @@ fn longest_key(rt: HostRuntime) -> Result<(), Fail> {
         text.as_slice(),
         b"1 up 0\n1 view 0 0\n1 active 0\n1 ok\n2 txn 0.1.1\n3 true\n4 stop 3\n".as_slice()
     );
+    Ok(())
+}
+
+#[test]
+fn reopened_is_no_primary(rt: HostRuntime) -> Result<(), Fail> {
+    let alloc = rt.alloc();
+    let script =
+        b"boot 0 0\nbegin 0\nmake 0 0.1.1 d dict\nset 0 0.1.1 d k v\ncommit 0 0.1.1\ncrash 0 0\nreboot 0\nbegin 0\ninspect 0\nreboot 0\n";
+    let (status, text) = answered(alloc, script)?;
+    assert_eq!(rt; status, 0);
+    assert_eq!(rt;
+        text.as_slice(),
+        b"1 up 0\n1 view 0 0\n1 active 0\n1 ok\n2 txn 0.1.1\n3 true\n4 ok\n5 order 0.1.1 make:d:dict put:d:k:v\n5 view 0 1\n5 committed 0.1.1\n6 ok\n7 up 0\n7 view 0 1\n8 notactive 0\n9 state 0 1\n9 rows d dict k=v\n10 ignored up\n".as_slice()
+    );
+    Ok(())
+}
+
+#[test]
+fn closed_is_down(rt: HostRuntime) -> Result<(), Fail> {
+    let alloc = rt.alloc();
+    let script = b"crash 0 0\nboot 0 0\ncrash 0 1\ncrash 0 2\nbegin 0\narm 0 1\ninspect 0\n";
+    let (status, text) = answered(alloc, script)?;
+    assert_eq!(rt; status, 0);
+    assert_eq!(rt;
+        text.as_slice(),
+        b"1 refused 9\n2 up 0\n2 view 0 0\n2 active 0\n2 ok\n3 ok\n4 ok\n5 down 0\n6 down 0\n7 down 0\n".as_slice()
+    );
+    Ok(())
+}
+
+// Adds a text and a number to a script.
+fn add(script: &mut Vec<u8>, text: &[u8], number: u64) -> Result<(), AllocError> {
+    let mut buffer = Buffer::new();
+    script.extend_from_slice(text)?;
+    script.extend_from_slice(buffer.format(number).as_bytes())
+}
+
+// A disk that is armed before a commit, and then stopped.
+fn stop_in_commit(alloc: Global, calls: u64, pick: u64) -> Result<Vec<u8>, AllocError> {
+    let mut script = Vec::from_slice(
+        alloc,
+        b"boot 0 0\nbegin 0\nmake 0 0.1.1 d dict\nset 0 0.1.1 d k v\n",
+    )?;
+    add(&mut script, b"arm 0 ", calls)?;
+    add(&mut script, b"\ncommit 0 0.1.1\ncrash 0 ", pick)?;
+    script.extend_from_slice(b"\nreboot 0\n")?;
+    Ok(script)
+}
+
+#[test]
+fn stops_in_a_commit(rt: HostRuntime) -> Result<(), Fail> {
+    let alloc = rt.alloc();
+    // The four calls that append the end of the transaction.
+    for calls in 1..5u64 {
+        for pick in 0..3u64 {
+            let (status, text) = answered(alloc, &stop_in_commit(alloc, calls, pick)?)?;
+            assert_eq!(rt; status, 0);
+            assert_eq!(rt;
+                text.as_slice(),
+                b"1 up 0\n1 view 0 0\n1 active 0\n1 ok\n2 txn 0.1.1\n3 true\n4 ok\n5 ok\n6 fault 0\n7 ok\n8 up 0\n8 view 0 0\n".as_slice()
+            );
+        }
+    }
+    // The first call that appends the Barrier behind it.
+    let (status, text) = answered(alloc, &stop_in_commit(alloc, 5, 0)?)?;
+    assert_eq!(rt; status, 0);
+    assert_eq!(rt;
+        text.as_slice(),
+        b"1 up 0\n1 view 0 0\n1 active 0\n1 ok\n2 txn 0.1.1\n3 true\n4 ok\n5 ok\n6 order 0.1.1 make:d:dict put:d:k:v\n6 view 0 1\n6 committed 0.1.1\n6 fault 0\n7 ok\n8 up 0\n8 view 0 0\n".as_slice()
+    );
+    Ok(())
+}
+
+// A transaction on a disk that was armed before it, a stop, and what the replica shows then.
+fn stop_in_transaction(alloc: Global, calls: u64, pick: u64) -> Result<Vec<u8>, AllocError> {
+    let mut script = Vec::from_slice(alloc, b"boot 0 0\n")?;
+    add(&mut script, b"arm 0 ", calls)?;
+    add(
+        &mut script,
+        b"\nbegin 0\nmake 0 0.1.1 d dict\nset 0 0.1.1 d k v\ncommit 0 0.1.1\ncrash 0 ",
+        pick,
+    )?;
+    script.extend_from_slice(b"\nreboot 0\ninspect 0\n")?;
+    Ok(script)
+}
+
+// Where no call of the disk fails.
+const NO_FAULT: &[u8] =
+    b"1 up 0\n1 view 0 0\n1 active 0\n1 ok\n2 ok\n3 txn 0.1.1\n4 true\n5 ok\n6 order 0.1.1 make:d:dict put:d:k:v\n6 view 0 1\n6 committed 0.1.1\n7 ok\n8 up 0\n8 view 0 1\n9 state 0 1\n9 rows d dict k=v\n";
+
+// Whether the stop left the whole transaction, or nothing of it.
+fn is_whole_or_none(text: &[u8]) -> bool {
+    text.ends_with(b"\n9 state 0 1\n9 rows d dict k=v\n") || text.ends_with(b"\n9 state 0 0\n")
+}
+
+// Whether that is so at each call that fails, up to a run in which none does.
+fn never_a_part(alloc: Global, pick: u64) -> Result<bool, AllocError> {
+    for calls in 1..64u64 {
+        let (_, text) = answered(alloc, &stop_in_transaction(alloc, calls, pick)?)?;
+        if text.as_slice() == NO_FAULT {
+            return Ok(true);
+        }
+        if !is_whole_or_none(&text) {
+            return Ok(false);
+        }
+    }
+    Ok(false)
+}
+
+#[test]
+fn stops_leave_no_part(rt: HostRuntime) -> Result<(), Fail> {
+    let alloc = rt.alloc();
+    // 40 digits in base 3 that are all 0, all 1, or all 2.
+    assert!(rt; never_a_part(alloc, 0)?);
+    assert!(rt; never_a_part(alloc, 6_078_832_729_528_464_400)?);
+    assert!(rt; never_a_part(alloc, 12_157_665_459_056_928_800)?);
     Ok(())
 }
 

@@ -16,8 +16,8 @@ use Rattle.order_machine.specs.Machine.{Machine, Txn, is_live}
 use Rattle.order_machine.specs.Rows.{IsUnbuilt, first_epoch}
 use Rattle.order_machine.specs.Legal.{IsWhole, moved}
 use Rattle.rc_base.proofs.SameIds.{is_txn-true, is_txn_same}
-use Rattle.world.specs.declared.world.Going.{Going}
-use Rattle.world.specs.World.{running, Runs, IsKept}
+use Rattle.world.specs.Kept.{Going}
+use Rattle.world.specs.World.{running, Runs, RunsWith, IsKept}
 use Rattle.world.proofs.Answer.{answer_serves}
 use Rattle.world.proofs.Quiet.{holds_behind}
 
@@ -96,13 +96,14 @@ begin_runs begins shown contents m h =
     known g e = let P : Going → Type 0 = λ u. lookup (is_txn u.txn) ((next begins, fresh (length h.entries)) ∷ h.txns) ≡ Some (fresh (length h.entries)) in
         subst P e (rw (is_txn_same (next begins)) refl)
 
-pub begin_serves : (begins shown : ℕ) (contents : State) (m : Machine) → Runs begins shown contents None m →
-    IsWhole m (Client 0 Begin) (says.Txn (next begins) ∷ []) × Runs (begins + 1) shown contents (Some (going (next begins))) (moved m (Client 0 Begin) (says.Txn (next begins) ∷ []))
+pub begin_serves : (begins shown : ℕ) (contents : State) (m : Machine) (h : Runs begins shown contents None m) →
+    IsWhole m (Client 0 Begin) (says.Txn (next begins) ∷ []) × RunsWith h.entries (begins + 1) shown contents (Some (going (next begins))) (moved m (Client 0 Begin) (says.Txn (next begins) ∷ []))
+unfolding begin_runs
 begin_serves begins shown contents m h =
-    let P : Machine → Type 0 = λ n. IsWhole n (Client 0 Begin) (says.Txn (next begins) ∷ []) × Runs (begins + 1) shown contents (Some (going (next begins))) (moved n (Client 0 Begin) (says.Txn (next begins) ∷ [])) in
+    let P : Machine → Type 0 = λ n. IsWhole n (Client 0 Begin) (says.Txn (next begins) ∷ []) × RunsWith h.entries (begins + 1) shown contents (Some (going (next begins))) (moved n (Client 0 Begin) (says.Txn (next begins) ∷ [])) in
     let then = begin_runs begins shown contents m h in
     let n : Machine = running h.entries h.acknowledged h.txns begins in
-    subst P (sym h.is) (answer_serves n 0 Begin (says.Txn (next begins)) None (Runs (begins + 1) shown contents (Some (going (next begins)))) refl refl refl refl (holds_behind _ _ _ _ _ then) then)
+    subst P (sym h.is) (answer_serves n 0 Begin (says.Txn (next begins)) None (RunsWith h.entries (begins + 1) shown contents (Some (going (next begins)))) refl refl refl refl (holds_behind _ _ _ _ _ then) (then, refl))
 
 -- a begin beside what goes on waits for locks
 pub unbuilt_beside : (begins shown : ℕ) (contents : State) (g : Going) (m : Machine) → Runs begins shown contents (Some g) m → IsUnbuilt m (Client 0 Begin)

@@ -16,21 +16,23 @@ use Rattle.order_machine.specs.declared.observation.Observation.{Observation}
 use Rattle.order_machine.specs.declared.observation.Observation.TheVariants as says
 use Rattle.rc_base.specs.Ids.{is_txn, is_epoch}
 use Rattle.order_machine.specs.Order.{Entry, holds, before}
-use Rattle.order_machine.specs.Machine.{Machine, Txn, Role, is_live, is_pending, is_shown, role_of, put_txn, never_opened, ops_of}
+use Rattle.order_machine.specs.Machine.{Machine, Txn, Role, is_live, is_pending, is_shown, role_of, put_txn, never_opened, ops_of, ended_at}
 use Rattle.order_machine.specs.Answers.{plain, Replays}
 use Rattle.order_machine.specs.Rows.{Position, May, opened, at_start, after, first_epoch}
 use Rattle.order_machine.specs.Legal.{IsWhole, moved}
 use Rattle.rc_base.proofs.SameIds.{is_txn-true, is_txn_same}
-use Rattle.world.specs.declared.world.Going.{Going}
-use Rattle.world.specs.World.{running, serving, first_appointment, state_of, Runs, IsKept}
+use Rattle.world.specs.Kept.{Going}
+use Rattle.world.specs.World.{running, state_of, Runs, RunsWith, IsKept, IsShutWith}
+use Rattle.world.specs.Standing.{serving, shut, first_appointment}
 use Rattle.world.proofs.Quiet.{holds_behind, never_there}
 use Rattle.world.proofs.Replied.{all_taken, state_is}
+use Rattle.world.proofs.WithoutRole.{holds_without_role}
 use Rattle.world.proofs.Served.{served_from}
 
 abbrev asked_of : Txn → Txn
 asked_of x = record x { live = false; asked = true }
 
-abbrev entry_of : Going → Entry
+abbrev pub entry_of : Going → Entry
 entry_of g = record { txn = g.txn; ops = g.ops }
 
 -- the machine at the second line and at the third: replica 0 shows this many transactions
@@ -40,7 +42,7 @@ grown entries acknowledged txns begins shown = record {
   acknowledged = acknowledged;
   replicas = serving shown begins ∷ replicate 8 never_opened;
   txns = txns;
-  appointments = first_appointment ∷ [];
+  appointments = first_appointment true ∷ [];
   config = 0 ∷ [];
 }
 
@@ -99,7 +101,7 @@ view_may begins shown entries acknowledged txns g x all = record {
 abbrev third : (begins shown : ℕ) (entries : List Entry) (acknowledged : List TxnId) (txns : List (TxnId × Txn)) (g : Going) (x : Txn) → Position
 third begins shown entries acknowledged txns g x = after (after (start_of begins entries acknowledged txns g x) (says.Order g.txn g.ops)) (says.View 0 (shown + 1))
 
-abbrev with_entry : List Entry → Going → List Entry
+abbrev pub with_entry : List Entry → Going → List Entry
 with_entry entries g = entries ++ entry_of g ∷ []
 
 shown_there : (entries : List Entry) (shown : ℕ) (g : Going) (u : TxnId) → shown ≡ length entries → holds (with_entry entries g) u ≡ true → holds (take (shown + 1 - 0) (with_entry entries g)) u ≡ true
@@ -248,8 +250,9 @@ commit_runs begins shown contents m g h x known = record {
     begun_there u (inl e) = h.held_begun u e
     begun_there u (inr e) = let w : u ≡ g.txn = is_txn-true u g.txn (or_false (is_txn u g.txn) e) in let k = (h.each g.txn x known).begun in rw w k
 
-pub commit_serves : (begins shown : ℕ) (contents : State) (m : Machine) (g : Going) → Runs begins shown contents (Some g) m →
-    IsWhole m (Client 0 (Commit g.txn)) (lines_of g shown) × Runs begins (shown + 1) contents None (moved m (Client 0 (Commit g.txn)) (lines_of g shown))
+pub commit_serves : (begins shown : ℕ) (contents : State) (m : Machine) (g : Going) (h : Runs begins shown contents (Some g) m) →
+    IsWhole m (Client 0 (Commit g.txn)) (lines_of g shown) × RunsWith (with_entry h.entries g) begins (shown + 1) contents None (moved m (Client 0 (Commit g.txn)) (lines_of g shown))
+unfolding commit_runs
 commit_serves begins shown contents m g h =
     let x = (h.live_known g refl).0 in
     let known = (h.live_known g refl).1 in
@@ -261,8 +264,8 @@ commit_serves begins shown contents m g h =
     let F : Option Txn → Bool → Position = λ o b. at_start (cond b (option_map_or (λ y. put_txn n g.txn (asked_of y)) o n) n) (Client 0 (Commit g.txn)) (option_map_or (λ y. None) (cond b o None) (Some (plain (says.Ended g.txn)))) [] in
     let o : opened n (Client 0 (Commit g.txn)) ≡ p = ap (F (lookup (is_txn g.txn) h.txns)) live_there ∙ ap (λ q. F q true) known in
     let then = commit_runs begins shown contents m g h x known in
-    let P : Machine → Type 0 = λ at. IsWhole at (Client 0 (Commit g.txn)) (lines_of g shown) × Runs begins (shown + 1) contents None (moved at (Client 0 (Commit g.txn)) (lines_of g shown)) in
-    subst P (sym h.is) (served_from n (Client 0 (Commit g.txn)) (lines_of g shown) p (Runs begins (shown + 1) contents None) refl o
+    let P : Machine → Type 0 = λ at. IsWhole at (Client 0 (Commit g.txn)) (lines_of g shown) × RunsWith (with_entry h.entries g) begins (shown + 1) contents None (moved at (Client 0 (Commit g.txn)) (lines_of g shown)) in
+    subst P (sym h.is) (served_from n (Client 0 (Commit g.txn)) (lines_of g shown) p (RunsWith (with_entry h.entries g) begins (shown + 1) contents None) refl o
     (record {
       may = (
         order_may begins h.entries h.acknowledged h.txns g x (k.not_held on) (k.logged on) (k.replays on),
@@ -274,4 +277,43 @@ commit_serves begins shown contents m g h =
       complete = record { opened = refl; grown = refl; mounted = refl; told = refl; answered = rw (is_txn_same g.txn) refl };
       holds = holds_behind _ _ _ _ _ then;
     })
-    then)
+    (then, refl))
+
+-- the same, where the disk fails behind them
+pub commit_faults : (begins shown : ℕ) (contents : State) (m : Machine) (g : Going) (h : Runs begins shown contents (Some g) m) →
+    IsWhole m (Client 0 (Commit g.txn)) (lines_of g shown ++ says.Fault 0 ∷ []) × IsShutWith (with_entry h.entries g) (moved m (Client 0 (Commit g.txn)) (lines_of g shown ++ says.Fault 0 ∷ []))
+unfolding commit_runs
+commit_faults begins shown contents m g h =
+    let x = (h.live_known g refl).0 in
+    let known = (h.live_known g refl).1 in
+    let k = h.each g.txn x known in
+    let on : x.live ≡ true = k.on ∙ is_txn_same g.txn in
+    let n : Machine = running h.entries h.acknowledged h.txns begins in
+    let p : Position = start_of begins h.entries h.acknowledged h.txns g x in
+    let live_there : is_live n 0 g.txn ≡ true = rw (known, on, k.home) refl in
+    let F : Option Txn → Bool → Position = λ o b. at_start (cond b (option_map_or (λ y. put_txn n g.txn (asked_of y)) o n) n) (Client 0 (Commit g.txn)) (option_map_or (λ y. None) (cond b o None) (Some (plain (says.Ended g.txn)))) [] in
+    let o : opened n (Client 0 (Commit g.txn)) ≡ p = ap (F (lookup (is_txn g.txn) h.txns)) live_there ∙ ap (λ q. F q true) known in
+    let then = commit_runs begins shown contents m g h x known in
+    let holds_then = holds_behind _ _ _ _ _ then in
+    let q : Position = after (third begins shown h.entries h.acknowledged h.txns g x) (says.Committed g.txn) in
+    let fault_may : May q (says.Fault 0) = record {
+      named = refl;
+      in_rank = refl;
+      next = refl;
+      goes_on = refl;
+      row = inr (record { rose = refl; answered = rw (is_txn_same g.txn) refl; nothing_due = λ t p. holds_then.not_shown 0 t p; is_up = refl });
+    } in
+    let P : Machine → Type 0 = λ at. IsWhole at (Client 0 (Commit g.txn)) (lines_of g shown ++ says.Fault 0 ∷ []) × IsShutWith (with_entry h.entries g) (moved at (Client 0 (Commit g.txn)) (lines_of g shown ++ says.Fault 0 ∷ [])) in
+    subst P (sym h.is) (served_from n (Client 0 (Commit g.txn)) (lines_of g shown ++ says.Fault 0 ∷ []) p (IsShutWith (with_entry h.entries g)) refl o
+    (record {
+      may = (
+        order_may begins h.entries h.acknowledged h.txns g x (k.not_held on) (k.logged on) (k.replays on),
+        (
+          view_may begins shown h.entries h.acknowledged h.txns g x h.all_shown,
+          (commit_may begins shown h.entries h.acknowledged h.txns g x h.each known (k.not_held on) (k.not_acknowledged on) h.all_shown, (fault_may, tt)),
+        ),
+      );
+      complete = record { opened = refl; grown = refl; mounted = refl; told = refl; answered = rw (is_txn_same g.txn) refl };
+      holds = holds_without_role (with_entry h.entries g) (g.txn ∷ h.acknowledged) (shut (shown + 1)) (ended_at 0 ((g.txn, asked_of x) ∷ h.txns)) true refl;
+    })
+    (record { acknowledged = g.txn ∷ h.acknowledged; txns = ended_at 0 ((g.txn, asked_of x) ∷ h.txns); was_active = true; shown = shown + 1; is = refl }))

@@ -17,9 +17,8 @@ use Rattle.order_machine.specs.Answers.{served, seen, reply_at, plain, noted, tx
 use Rattle.order_machine.specs.Rows.{asking}
 use Rattle.order_machine.specs.Legal.{IsWhole, moved}
 use Rattle.rc_base.proofs.SameIds.{is_txn-true}
-use Rattle.world.specs.declared.world.Going.{Going}
-use Rattle.world.specs.Kept.{goes_on}
-use Rattle.world.specs.World.{running, Runs, IsKept}
+use Rattle.world.specs.Kept.{Going, goes_on}
+use Rattle.world.specs.World.{running, Runs, IsKept, RunsWith}
 use Rattle.world.proofs.Answer.{answer_serves}
 use Rattle.world.proofs.Quiet.{holds_behind, settled}
 
@@ -62,22 +61,25 @@ each_noted begins live entries acknowledged txns t x c each known off u y true s
 each_noted begins live entries acknowledged txns t x c each known off u y false other e = each u y e
 
 noted_runs : (begins shown : ℕ) (contents : State) (live : Option Going) (m : Machine) (t : TxnId) (c : Noted) (h : Runs begins shown contents live m) → goes_on live t ≡ false →
-    (o : Option Txn) → lookup (is_txn t) h.txns ≡ o → Runs begins shown contents live (option_map_or (λ y. put_txn (running h.entries h.acknowledged h.txns begins) t (with_call y c)) o (running h.entries h.acknowledged h.txns begins))
-noted_runs begins shown contents live m t c h off None e = settled begins shown contents live m h
+    (o : Option Txn) → lookup (is_txn t) h.txns ≡ o → RunsWith h.entries begins shown contents live (option_map_or (λ y. put_txn (running h.entries h.acknowledged h.txns begins) t (with_call y c)) o (running h.entries h.acknowledged h.txns begins))
+unfolding settled
+noted_runs begins shown contents live m t c h off None e = (settled begins shown contents live m h, refl)
 noted_runs begins shown contents live m t c h off (Some x) e =
-    let is_off : x.live ≡ false = (h.each t x e).on ∙ off in
-    record {
-      entries = h.entries;
-      acknowledged = h.acknowledged;
-      txns = (t, with_call x c) ∷ h.txns;
-      is = refl;
-      all_shown = h.all_shown;
-      sees = h.sees;
-      each = λ u y known. each_noted begins live h.entries h.acknowledged h.txns t x c h.each e is_off u y (is_txn u t) refl known;
-      live_known = λ g is_live. live_noted g is_live (is_txn g.txn t) refl;
-      held = h.held;
-      held_begun = h.held_begun;
-    }
+    let is_off : x.live ≡ false = (h.each t x e).on ∙ off in (
+      record {
+        entries = h.entries;
+        acknowledged = h.acknowledged;
+        txns = (t, with_call x c) ∷ h.txns;
+        is = refl;
+        all_shown = h.all_shown;
+        sees = h.sees;
+        each = λ u y known. each_noted begins live h.entries h.acknowledged h.txns t x c h.each e is_off u y (is_txn u t) refl known;
+        live_known = λ g is_live. live_noted g is_live (is_txn g.txn t) refl;
+        held = h.held;
+        held_begun = h.held_begun;
+      },
+      refl,
+    )
   where
     live_noted : (g : Going) → live ≡ Some g → (b : Bool) → is_txn g.txn t ≡ b → (y : Txn) × (cond b (Some (with_call x c)) (lookup (is_txn g.txn) h.txns) ≡ Some y)
     live_noted g is_live true same = (with_call x c, refl)
@@ -101,12 +103,12 @@ ended_asking begins entries acknowledged txns (Commit u) t named off =
     let gone : is_live n 0 u ≡ false = subst (λ v. is_live n 0 v ≡ false) (sym same) off in
     cond-false (is_live n 0 u) (option_map_or (λ x. put_txn n u (record x { live = false; asked = true })) (lookup (is_txn u) txns) n) n gone
 
-pub ended_serves : (begins shown : ℕ) (contents : State) (live : Option Going) (m : Machine) (call : Call) (t : TxnId) → txn_named call ≡ Some t → Runs begins shown contents live m → goes_on live t ≡ false →
-    IsWhole m (Client 0 call) (says.Ended t ∷ []) × Runs begins shown contents live (moved m (Client 0 call) (says.Ended t ∷ []))
+pub ended_serves : (begins shown : ℕ) (contents : State) (live : Option Going) (m : Machine) (call : Call) (t : TxnId) → txn_named call ≡ Some t → (h : Runs begins shown contents live m) → goes_on live t ≡ false →
+    IsWhole m (Client 0 call) (says.Ended t ∷ []) × RunsWith h.entries begins shown contents live (moved m (Client 0 call) (says.Ended t ∷ []))
 ended_serves begins shown contents live m call t named h off =
     let n : Machine = running h.entries h.acknowledged h.txns begins in
     let gone : is_live n 0 t ≡ false = not_live begins shown contents live n t (settled begins shown contents live m h) off in
-    let R : Option TxnId → Type 0 = λ o. Runs begins shown contents live (option_map_or (λ u. noted n u (ended_call call t)) o n) in
+    let R : Option TxnId → Type 0 = λ o. RunsWith h.entries begins shown contents live (option_map_or (λ u. noted n u (ended_call call t)) o n) in
     let then = subst R (sym named) (noted_runs begins shown contents live m t (ended_call call t) h off (lookup (is_txn t) h.txns) refl) in
-    let P : Machine → Type 0 = λ at. IsWhole at (Client 0 call) (says.Ended t ∷ []) × Runs begins shown contents live (moved at (Client 0 call) (says.Ended t ∷ [])) in
-    subst P (sym h.is) (answer_serves n 0 call (says.Ended t) None (Runs begins shown contents live) refl (ended_asking begins h.entries h.acknowledged h.txns call t named gone) (ended_answer n 0 call t named gone) refl (holds_behind _ _ _ _ _ then) then)
+    let P : Machine → Type 0 = λ at. IsWhole at (Client 0 call) (says.Ended t ∷ []) × RunsWith h.entries begins shown contents live (moved at (Client 0 call) (says.Ended t ∷ [])) in
+    subst P (sym h.is) (answer_serves n 0 call (says.Ended t) None (RunsWith h.entries begins shown contents live) refl (ended_asking begins h.entries h.acknowledged h.txns call t named gone) (ended_answer n 0 call t named gone) refl (holds_behind _ _ _ _ _ then.0) then)

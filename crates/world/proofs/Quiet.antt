@@ -10,7 +10,7 @@ use Rattle.rc_base.specs.Ids.{is_txn}
 use Rattle.order_machine.specs.Order.{Entry}
 use Rattle.order_machine.specs.Machine.{Machine, Txn, never_opened, is_pending, is_active, is_alone, has_role}
 use Rattle.order_machine.specs.Rows.{HoldsBehind}
-use Rattle.world.specs.declared.world.Going.{Going}
+use Rattle.world.specs.Kept.{Going}
 use Rattle.world.specs.World.{running, Runs}
 
 -- the replicas behind the first were never opened
@@ -52,7 +52,7 @@ holds_behind begins shown contents live m h = record {
 }
 
 -- the same, of the machine written out
-pub settled : (begins shown : ℕ) (contents : State) (live : Option Going) (m : Machine) (h : Runs begins shown contents live m) → Runs begins shown contents live (running h.entries h.acknowledged h.txns begins)
+unfoldable pub settled : (begins shown : ℕ) (contents : State) (live : Option Going) (m : Machine) (h : Runs begins shown contents live m) → Runs begins shown contents live (running h.entries h.acknowledged h.txns begins)
 settled begins shown contents live m h = record {
   entries = h.entries;
   acknowledged = h.acknowledged;

@@ -19,13 +19,12 @@ use Rattle.order_machine.specs.declared.reply.Reply.{Reply}
 use Rattle.rc_base.specs.Ids.{is_txn}
 use Rattle.order_machine.specs.Order.{Entry}
 use Rattle.order_machine.specs.Machine.{Machine, Txn, Noted, is_live, live_txn, put_txn, role_of, ops_of}
-use Rattle.order_machine.specs.Answers.{served, seen, reply_at, plain, noted, begun_by, txn_named, next_txn, is_replayed, Replays}
+use Rattle.order_machine.specs.Answers.{answer, served, seen, reply_at, plain, noted, begun_by, txn_named, next_txn, is_replayed, Replays}
 use Rattle.order_machine.specs.Rows.{asking}
 use Rattle.order_machine.specs.Legal.{IsWhole, moved}
 use Rattle.rc_base.proofs.SameIds.{is_txn-true, is_txn_same}
-use Rattle.world.specs.declared.world.Going.{Going}
-use Rattle.world.specs.Kept.{with_op}
-use Rattle.world.specs.World.{running, state_of, Runs, IsKept}
+use Rattle.world.specs.Kept.{Going, with_op}
+use Rattle.world.specs.World.{running, state_of, Runs, RunsWith, IsKept}
 use Rattle.world.proofs.Answer.{answer_serves, reply_is}
 use Rattle.world.proofs.Ended.{with_call}
 use Rattle.world.proofs.Quiet.{holds_behind}
@@ -133,8 +132,21 @@ replied_runs begins shown contents g m call reply h x known answers = record {
         subst (λ u. lookup (is_txn u.txn) ((g.txn, with_call x (noted_call call reply)) ∷ h.txns) ≡ Some (with_call x (noted_call call reply))) e
         (cond-true (is_txn g.txn g.txn) (Some (with_call x (noted_call call reply))) (lookup (is_txn g.txn) h.txns) (is_txn_same g.txn))
 
-pub replied_serves : (begins shown : ℕ) (contents : State) (g : Going) (m : Machine) (call : Call) (reply : Reply) → txn_named call ≡ Some g.txn → Runs begins shown contents (Some g) m → reply_at contents call ≡ Some reply →
-    IsWhole m (Client 0 call) (reply.answer ∷ []) × Runs begins shown (folded contents (cons_option reply.op [])) (Some (with_op reply.op g)) (moved m (Client 0 call) (reply.answer ∷ []))
+-- the call of what goes on is answered by what it sees
+pub answer_live : (begins shown : ℕ) (contents : State) (g : Going) (m : Machine) (call : Call) → txn_named call ≡ Some g.txn → (h : Runs begins shown contents (Some g) m) → answer m 0 call ≡ reply_at contents call
+answer_live begins shown contents g m call named h =
+    let x = (h.live_known g refl).0 in
+    let known = (h.live_known g refl).1 in
+    let k = h.each g.txn x known in
+    let on : x.live ≡ true = k.on ∙ is_txn_same g.txn in
+    let n : Machine = running h.entries h.acknowledged h.txns begins in
+    let live_there : is_live n 0 g.txn ≡ true = rw (known, on, k.home) refl in
+    let sees : seen n 0 x ≡ contents = ap (λ s. folded s (ops_of x)) (state_is h.entries (length h.entries) refl) ∙ (ap (folded (state_of h.entries)) (k.logged on) ∙ sym h.sees) in
+    subst (λ at. answer at 0 call ≡ reply_at contents call) (sym h.is) (served_live n 0 call g.txn x named live_there known ∙ ap (λ s. reply_at s call) sees)
+
+pub replied_serves : (begins shown : ℕ) (contents : State) (g : Going) (m : Machine) (call : Call) (reply : Reply) → txn_named call ≡ Some g.txn → (h : Runs begins shown contents (Some g) m) → reply_at contents call ≡ Some reply →
+    IsWhole m (Client 0 call) (reply.answer ∷ []) × RunsWith h.entries begins shown (folded contents (cons_option reply.op [])) (Some (with_op reply.op g)) (moved m (Client 0 call) (reply.answer ∷ []))
+unfolding replied_runs
 replied_serves begins shown contents g m call reply named h answers =
     let x = (h.live_known g refl).0 in
     let known = (h.live_known g refl).1 in
@@ -145,8 +157,8 @@ replied_serves begins shown contents g m call reply named h answers =
     let sees : seen n 0 x ≡ contents = ap (λ s. folded s (ops_of x)) (state_is h.entries (length h.entries) refl) ∙ (ap (folded (state_of h.entries)) (k.logged on) ∙ sym h.sees) in
     let says_so : served n 0 call ≡ Some reply = served_live n 0 call g.txn x named live_there known ∙ (ap (λ s. reply_at s call) sees ∙ answers) in
     let after_it = replied_runs begins shown contents g m call reply h x known answers in
-    let R : Option Txn → Type 0 = λ o. Runs begins shown (folded contents (cons_option reply.op [])) (Some (with_op reply.op g)) (option_map_or (λ y. put_txn n g.txn (with_call y (noted_call call reply))) o n) in
-    let S : Option TxnId → Type 0 = λ o. Runs begins shown (folded contents (cons_option reply.op [])) (Some (with_op reply.op g)) (option_map_or (λ t. noted n t (noted_call call reply)) o (begun_by n 0 reply.answer)) in
-    let then = subst S (sym named) (subst R (sym known) after_it) in
-    let P : Machine → Type 0 = λ at. IsWhole at (Client 0 call) (reply.answer ∷ []) × Runs begins shown (folded contents (cons_option reply.op [])) (Some (with_op reply.op g)) (moved at (Client 0 call) (reply.answer ∷ [])) in
-    subst P (sym h.is) (answer_serves n 0 call reply.answer reply.op (Runs begins shown (folded contents (cons_option reply.op [])) (Some (with_op reply.op g))) refl (asks_nothing n 0 contents call reply answers) says_so (reply_is contents call reply answers) (holds_behind _ _ _ _ _ then) then)
+    let R : Option Txn → Type 0 = λ o. RunsWith h.entries begins shown (folded contents (cons_option reply.op [])) (Some (with_op reply.op g)) (option_map_or (λ y. put_txn n g.txn (with_call y (noted_call call reply))) o n) in
+    let S : Option TxnId → Type 0 = λ o. RunsWith h.entries begins shown (folded contents (cons_option reply.op [])) (Some (with_op reply.op g)) (option_map_or (λ t. noted n t (noted_call call reply)) o (begun_by n 0 reply.answer)) in
+    let then = subst S (sym named) (subst R (sym known) (after_it, refl)) in
+    let P : Machine → Type 0 = λ at. IsWhole at (Client 0 call) (reply.answer ∷ []) × RunsWith h.entries begins shown (folded contents (cons_option reply.op [])) (Some (with_op reply.op g)) (moved at (Client 0 call) (reply.answer ∷ [])) in
+    subst P (sym h.is) (answer_serves n 0 call reply.answer reply.op (RunsWith h.entries begins shown (folded contents (cons_option reply.op [])) (Some (with_op reply.op g))) refl (asks_nothing n 0 contents call reply answers) says_so (reply_is contents call reply answers) (holds_behind _ _ _ _ _ then.0) then)

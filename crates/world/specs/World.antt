@@ -1,46 +1,39 @@
--- When a world stands for a state of the machine, and what it promises of an event.
-use Rattle.std.specs.Prelude.{◌≡◌, ℕ, ◌≤◌, true, false, List, [], ◌∷◌, length, replicate, flat_map, Option, Some, Result, Ok, Err, MatchBool}
+-- When a world and the disk of its replica stand for a state of the machine, and what it promises of an event.
+use Rattle.std.specs.Prelude.{◌≡◌, ℕ, ◌*◌, ◌≤◌, Bool, true, false, List, [], ◌∷◌, ◌++◌, length, map, flat_map, Option, Some, None, Result, Ok, Err, MatchBool}
 use Rattle.std.specs.List.{list_any}
 use Rattle.std.specs.Map.{lookup}
 use Rattle.rc_base.specs.declared.ids.TxnId.{TxnId}
-use Rattle.coll_model.specs.Effect.{State, folded}
-use Rattle.script_text.specs.declared.event.Event.{Event}
-use Rattle.script_text.specs.declared.event.Event.TheVariants.{Boot, Client}
-use Rattle.order_machine.specs.declared.observation.Observation.{Observation}
 use Rattle.rc_base.specs.Ids.{is_txn}
+use Rattle.coll_model.specs.Effect.{State, folded}
+use Rattle.disk_model.specs.Disk.{Areas, Each}
+use Rattle.txn_table.specs.declared.committed.Committed.{Committed}
+use Rattle.log_store.specs.declared.kept.Kept.{Kept as Log}
+use Rattle.log_store.specs.Durable.{durable, StandFor}
+use Rattle.log_store.specs.Fold.{no_log}
+use Rattle.log_store.specs.Log.{commits_in}
+use Rattle.log_store.specs.Store.{IsOpenOn}
+use Rattle.script_text.specs.declared.event.Event.{Event}
+use Rattle.script_text.specs.declared.event.Event.TheVariants.{Boot, Client, Arm, Crash, Reboot, Inspect}
+use Rattle.order_machine.specs.declared.observation.Observation.{Observation}
 use Rattle.order_machine.specs.Order.{Entry, holds}
-use Rattle.order_machine.specs.Machine.{Machine, Replica, Appointment, Txn, empty_machine, never_opened, ops_of}
+use Rattle.order_machine.specs.Machine.{Machine, Txn, empty_machine, ops_of, is_booted}
 use Rattle.order_machine.specs.Answers.{Replays}
 use Rattle.order_machine.specs.Rows.{IsUnbuilt, first_epoch}
 use Rattle.order_machine.specs.Legal.{IsWhole, moved}
+use Rattle.replica.specs.declared.role.Role.{Role}
+use Rattle.replica.specs.declared.role.Role.TheVariants.{Other, Primary}
+use Rattle.replica.specs.Open.{Open, AgreesWith, shown_in, stable_in}
+use Rattle.replica.specs.Step.{CallFits}
 use Rattle.world.specs.declared.error.WorldError.{WorldError}
 use Rattle.world.specs.declared.error.WorldError.TheVariants as errors
-use Rattle.world.specs.declared.world.Going.{Going}
-use Rattle.world.specs.Kept.{Kept, goes_on, ops_going}
+use Rattle.world.specs.Disks.{as_commit, DiskHolds}
+use Rattle.world.specs.Kept.{Kept, Going, live_of, goes_on, ops_going}
+use Rattle.world.specs.Standing.{standing, serving, resting, shut}
 
--- ---- a booted world: replica 0 is the active primary of the first epoch, and shows all of the order
-
-abbrev pub serving : ℕ → ℕ → Replica
-serving shown begins = record {
-  up = true;
-  show = shown;
-  loss = 0;
-  role = Some (record { epoch = first_epoch; active = true; begins = begins; idle = [] });
-  surveys = [];
-}
-
-abbrev pub first_appointment : Appointment
-first_appointment = record { epoch = first_epoch; primary = 0; previous = 0 ∷ []; current = 0 ∷ []; dropped = false; was_active = true }
+-- ---- replica 0 is the active primary of the first epoch, and shows all of the order
 
 abbrev pub running : List Entry → List TxnId → List (TxnId × Txn) → ℕ → Machine
-running entries acknowledged txns begins = record {
-  orders = record { base = 0; start = []; entries = entries } ∷ [];
-  acknowledged = acknowledged;
-  replicas = serving (length entries) begins ∷ replicate 8 never_opened;
-  txns = txns;
-  appointments = first_appointment ∷ [];
-  config = 0 ∷ [];
-}
+running entries acknowledged txns begins = standing entries acknowledged (serving (length entries) begins) txns true
 
 -- the state behind the entries
 abbrev pub state_of : List Entry → State
@@ -72,22 +65,109 @@ pub record Runs (begins shown : ℕ) (contents : State) (live : Option Going) (m
   pub held : (t : TxnId) → list_any (is_txn t) acknowledged ≡ true → holds entries t ≡ true
   pub held_begun : (t : TxnId) → holds entries t ≡ true → t.n ≤ begins
 
--- the world is in this state of the machine
-abbrev pub StandsFor : Kept → Machine → Type 0
-StandsFor k m = MatchBool k.booted (Runs k.begins k.shown k.contents k.live m) (m ≡ empty_machine)
+-- the same, with these entries
+abbrev pub RunsWith : List Entry → ℕ → ℕ → State → Option Going → Machine → Type 0
+RunsWith entries begins shown contents live m = (runs : Runs begins shown contents live m) × (runs.entries ≡ entries)
+
+-- ---- replica 0 and its disk
+
+-- an open replica, its log, and what its disk may hold
+pub record IsOpen (r : Open) (log : Log) (images : Areas → Type 0) : Type 0 where
+  pub first : r.id ≡ 0
+  pub stands : StandFor log images
+  pub agrees : AgreesWith r log
+  pub opened : IsOpenOn r.log images
+  pub not_closed : r.log.log.closed ≡ false
+
+-- The order is a beginning of what a log commits; what a replica shows once the log was opened is a beginning of the order.
+-- No event logs more than three records.
+pub record IsSound (entries : List Entry) (last : ℕ) (log : Log) : Type 0 where
+  pub more : List Committed
+  pub holds : map as_commit entries ++ more ≡ commits_in log.records
+  pub hidden : List Committed
+  pub shows : shown_in log.records ++ hidden ≡ map as_commit entries
+  pub short : length log.records ≤ 3 * last
+
+-- it serves as the primary: the order is all that its log commits
+pub record Serving (last : ℕ) (r : Open) (images : Areas → Type 0) (m : Machine) : Type 0 where
+  pub runs : Runs r.begins r.shown r.seen (live_of r.live) m
+  pub log : Log
+  pub is_open : IsOpen r log images
+  pub epoch : r.epoch ≡ first_epoch
+  pub commits : map as_commit runs.entries ≡ commits_in log.records
+  pub short : length log.records ≤ 3 * last
+  pub few : r.begins ≤ last
+
+-- Replica 0 was opened again and shows so many, and these are the entries of the order.
+pub record RestsWith (entries : List Entry) (shown : ℕ) (m : Machine) : Type 0 where
+  pub acknowledged : List TxnId
+  pub txns : List (TxnId × Txn)
+  pub was_active : Bool
+  pub is : m ≡ standing entries acknowledged (resting shown) txns was_active
+
+-- it was opened again, and is no primary
+pub record Resting (last : ℕ) (r : Open) (images : Areas → Type 0) (m : Machine) : Type 0 where
+  pub entries : List Entry
+  pub rests : RestsWith entries r.shown m
+  pub log : Log
+  pub is_open : IsOpen r log images
+  pub sound : IsSound entries last log
+  pub stable : r.stable.0 ≡ stable_in log.records
+  pub few : r.begins ≤ last
+
+-- Replica 0 is closed, and these are the entries of the order.
+pub record IsShutWith (entries : List Entry) (m : Machine) : Type 0 where
+  pub acknowledged : List TxnId
+  pub txns : List (TxnId × Txn)
+  pub was_active : Bool
+  pub shown : ℕ
+  pub is : m ≡ standing entries acknowledged (shut shown) txns was_active
+
+-- it is closed
+pub record Closed (last : ℕ) (images : Areas → Type 0) (m : Machine) : Type 0 where
+  pub entries : List Entry
+  pub is_shut : IsShutWith entries m
+  pub sound : Each images (λ c. (log : Log) × (durable c ≡ Ok log) × IsSound entries last log)
+
+abbrev pub AsRole : Role → ℕ → Open → (Areas → Type 0) → Machine → Type 0
+AsRole Other = Resting
+AsRole (Primary epoch active) = Serving
+
+abbrev pub AsReplica : Option Open → ℕ → (Areas → Type 0) → Machine → Type 0
+AsReplica None last images m = Closed last images m
+AsReplica (Some r) last images m = AsRole r.role last r images m
+
+-- before the boot there is no log
+pub record IsNew (k : Kept) (images : Areas → Type 0) (m : Machine) : Type 0 where
+  pub is : m ≡ empty_machine
+  pub closed : k.replica ≡ None
+  pub empty : StandFor no_log images
+
+-- the world and the disk of replica 0 stand for this state of the machine
+abbrev pub StandsFor : Kept → (Areas → Type 0) → Machine → Type 0
+StandsFor k images m = MatchBool k.booted (AsReplica k.replica k.last images m) (IsNew k images m)
 
 -- ---- what an event promises
 
--- The event is one that is done so far, at the replica that there is. Its names, keys and values may be any bytes.
+-- The event is one that is done so far, at the replica that there is. Its names, keys and values may be any that a log
+-- can hold.
 abbrev pub IsHere : Event → Type 0
 IsHere (Boot p members) = (p ≡ 0) × (members ≡ 0 ∷ [])
-IsHere (Client r call) = r ≡ 0
-IsHere _ = ⊥
+IsHere (Client r call) = (r ≡ 0) × CallFits call
+IsHere (Arm r calls) = (r ≡ 0) × (1 ≤ calls)
+IsHere (Crash r pick) = r ≡ 0
+IsHere (Reboot r) = r ≡ 0
+IsHere (Inspect r) = r ≡ 0
 
--- At each state that the world stands for, the lines are whole, and the world stands for the state behind them. An
--- event that is not built at a state is refused so, and no other; no limit is reached.
-abbrev pub Serves : Kept → Kept → Event → Result (List Observation) WorldError → Type 0
-Serves old new event (Ok lines) = (m : Machine) → StandsFor old m → IsWhole m event lines × StandsFor new (moved m event lines) × (IsUnbuilt m event → ⊥)
-Serves old new event (Err errors.NoMemory) = Unit {0}
-Serves old new event (Err (errors.Limit which lines)) = ⊥
-Serves old new event (Err (errors.Unbuilt lines)) = (lines ≡ []) × ((m : Machine) → StandsFor old m → IsUnbuilt m event)
+-- once it was booted, the disk holds what was acknowledged
+abbrev pub StillHolds : Machine → (Areas → Type 0) → Type 0
+StillHolds m images = is_booted m ≡ true → DiskHolds m 0 images
+
+-- At each state that world and disk stand for, the lines are whole, and world and disk stand for the state behind them.
+-- The disk still holds what was acknowledged before, also without all lines. An event that is not built at a state is refused so, and
+-- no other; no limit is reached.
+abbrev pub Serves : Kept → Kept → (Areas → Type 0) → (Areas → Type 0) → Event → Result (List Observation) WorldError → Type 0
+Serves old new before now event (Ok lines) = (m : Machine) → StandsFor old before m → IsWhole m event lines × StandsFor new now (moved m event lines) × (IsUnbuilt m event → ⊥) × StillHolds m now
+Serves old new before now event (Err errors.NoMemory) = (m : Machine) → StandsFor old before m → StillHolds m now
+Serves old new before now event (Err (errors.Limit which lines)) = ⊥
+Serves old new before now event (Err (errors.Unbuilt lines)) = (lines ≡ []) × ((m : Machine) → StandsFor old before m → IsUnbuilt m event × StillHolds m now)

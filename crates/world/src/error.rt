@@ -3,6 +3,7 @@ ghost use Rattle.world.specs.declared.error.WorldError.TheVariants.{NoMemory as 
 
 use order_machine::Observations;
 use rc_base::{LimitName, NoMemory};
+use std::alloc::AllocError;
 use thiserror::Error;
 
 /// Why an event was not done whole. Its world is dropped.
@@ -28,6 +29,14 @@ impl From<NoMemory> for WorldError {
     ghost from_gives = { λ _ e. e ≡ no_memory };
 
     fn from(_e: NoMemory) -> WorldError {
+        WorldError::NoMemory
+    }
+}
+
+impl From<AllocError> for WorldError {
+    ghost from_gives = { λ _ e. e ≡ no_memory };
+
+    fn from(_e: AllocError) -> WorldError {
         WorldError::NoMemory
     }
 }

@@ -2,7 +2,10 @@
 #![tactic(auto)]
 
 mod error;
-mod replies;
+mod opening;
+mod rows;
+mod starting;
+mod steps;
 mod world;
 
 pub use error::WorldError;

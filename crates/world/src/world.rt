@@ -1,87 +1,70 @@
-ghost use Rattle.std.specs.Prelude.{◌≡◌, ◌<◌, ◌≤◌, ◌+◌, List, [], ◌∷◌, IfOk, OnOk, OnErr, Err, IsErrOf, false, true, None, Some, vec_len, option_map};
-ghost use Rattle.std.specs.Vec.{VecUnchanged};
-ghost use Rattle.order_machine.specs.Answers.{txn_named};
+ghost use Rattle.std.specs.Prelude.{◌≡◌, ℕ, ◌<◌, ◌≤◌, ◌∷◌, ◌++◌, [], IfOk, OnOk, OnErr, Err, None, false, vec_len, slice_get};
 ghost use Rattle.order_machine.specs.declared.observation.Observation.{Observation};
-ghost use Rattle.order_machine.specs.Machine.{Machine, empty_machine};
-ghost use Rattle.order_machine.specs.Rows.{IsUnbuilt};
-ghost use Rattle.order_machine.specs.Legal.{IsWhole, moved};
-ghost use Rattle.script_text.specs.declared.event.Event.TheVariants.{Boot, Client};
-ghost use Rattle.script_text.specs.declared.event.Call.TheVariants.{Begin, Commit};
-ghost use Rattle.world.specs.Kept.{goes_on, ops_going, with_reply};
-ghost use Rattle.world.specs.World.{StandsFor, IsHere, Serves};
+ghost use Rattle.order_machine.specs.Machine.{Machine};
+ghost use Rattle.order_machine.specs.Rows.{is_actor};
+ghost use Rattle.replica.specs.Step.{CallFits};
+ghost use Rattle.script_text.specs.declared.event.Event.TheVariants.{Boot, Client, Arm, Crash, Reboot, Inspect};
+ghost use Rattle.world.specs.Fleet.{images_of, faults_of, marks_of, marks_after, fault_lines, RoseBy, TellsZero};
+ghost use Rattle.world.specs.Kept.{no_events};
+ghost use Rattle.world.specs.World.{StandsFor, IsHere, Serves, StillHolds};
 
 use crate::error::WorldError;
-use crate::replies::reply_at;
-use coll_model::{Ops, State};
+use crate::opening::open_replica;
+use crate::rows::inspected;
+use crate::starting::boot_replica;
+use crate::steps::{take_call, waits_for_locks};
 use disk_model::CrashDisk;
-use order_machine::{Observation, Observations, Reply};
-use rc_base::{Epoch, NoMemory, ReplicaId, TxnId};
+use order_machine::{Observation, Observations};
+use rc_base::{NoMemory, ReplicaId};
+use replica::{Replica, StepError};
 use script_text::{Call, Event};
 use std::alloc::Global;
 use std::marker::Model;
 
-/// The state of a script's world between two events. Log and contents stand in memory: no disk is called yet.
+/// The state of a script's world between two events. Its replica's log is on a disk of the fleet, which is lent to each
+/// event.
 #[derive(Drop)]
 pub struct World {
     alloc: Global,
     // The number of the last event.
     last: u64,
-    // Whether the boot was done: replica 0 is then the active primary of epoch 0.1.
     booted: bool,
-    // How many transactions were begun, and how many were committed.
-    begins: u64,
-    shown: u64,
-    // What replica 0 shows, with the operations of the transaction that goes on.
-    contents: State,
-    live: Option<Going>,
-}
-
-/// A transaction that goes on, and the operations that it logged.
-#[derive(Debug, Drop)]
-pub(crate) struct Going {
-    txn: TxnId,
-    ops: Ops,
+    // Replica 0, where it is open.
+    replica: Option<Replica>,
 }
 
 impl Model for World {
-    ghost use Rattle.world.specs.Kept.{Kept, IsCounted};
+    ghost use Rattle.world.specs.Kept.{Kept};
 
     ghost Value = { Kept };
 
-    ghost view = { λ w. record { last = w.last; booted = w.booted; begins = w.begins; shown = w.shown; contents = w.contents; live = w.live } };
-
-    ghost invariant = { λ w. IsCounted w.last w.begins w.shown };
+    ghost view = { λ w. record { last = w.last; booted = w.booted; replica = w.replica } };
 }
 
-/// The epoch that a boot starts.
-const FIRST_EPOCH: Epoch = Epoch { loss: 0, number: 1 };
-
 impl World {
-    /// A world in which nothing was booted.
+    /// A world in which nothing was booted. With a fleet of empty disks it stands for the first state of the machine.
     ///
     /// # Errors
     /// `NoMemory` for want of memory.
     pub fn new(alloc: Global) -> Result<World, NoMemory>
-        ensures stands { IfOk result (λ world. StandsFor world empty_machine) }
-        ensures last { IfOk result (λ world. world.last ≡ 0) }
+        ensures { IfOk result (λ world. world ≡ no_events) }
     {
         Ok(World {
             alloc,
             last: 0,
             booted: false,
-            begins: 0,
-            shown: 0,
-            contents: State::empty(alloc),
-            live: None,
+            replica: None,
         })
     }
 
-    /// Does an event, and gives its lines. At each state of the machine that the world stands for these are all lines
-    /// of the event, and the world stands for the state behind them.
+    /// Does an event, and gives its lines. At each state of the machine that world and fleet stand for these are all
+    /// lines of the event, and world and fleet stand for the state behind them. Only the disks of the replicas that take
+    /// a step are called; a `fault` is told only where that disk failed, and a disk is armed and stopped only where that
+    /// was asked.
     ///
     /// # Errors
     /// `Unbuilt` exactly where the event waits for a later version at this state; `NoMemory` for want of memory. The
-    /// world is dropped then.
+    /// world is dropped then; the disks still hold what was acknowledged.
     pub fn event<M: CrashDisk>(
         &mut self,
         fleet: &mut Vec<M>,
@@ -92,126 +75,239 @@ impl World {
         requires here { IsHere event.now }
         requires rising { self.old.last < number }
         requires within { number ≤ 1000000 }
-        ensures serves { Serves self.old self.new event.now result }
+        requires stands { (m : Machine) × StandsFor self.old (images_of M.images fleet.old.items 0) m }
+        ensures serves { Serves self.old self.new (images_of M.images fleet.old.items 0) (images_of M.images fleet.new.items 0) event.now result }
+        ensures still { (m : Machine) → StandsFor self.old (images_of M.images fleet.old.items 0) m → StillHolds m (images_of M.images fleet.new.items 0) }
         ensures last { OnOk result (self.new.last ≡ number) }
-        ensures disks { VecUnchanged fleet.old fleet.new }
+        ensures nine { vec_len fleet.new ≡ 9 }
+        ensures elsewhere { (r : ℕ) → is_actor event.now r ≡ false → slice_get fleet.new.items r ≡ slice_get fleet.old.items r }
+        ensures faults { (r : ℕ) → RoseBy (fault_lines r result) (faults_of M.faults fleet.old.items r) (faults_of M.faults fleet.new.items r) }
+        ensures marks { (r : ℕ) → marks_of M.marks fleet.new.items r ≡ marks_after event.now result r (marks_of M.marks fleet.old.items r) }
     {
-        let _ = fleet;
+        self.at_zero(&mut fleet[0], number, event)
+    }
+
+    // An event at replica 0, which has this disk.
+    fn at_zero<M: CrashDisk>(
+        &mut self,
+        disk: &mut M,
+        number: u64,
+        event: &Event,
+    ) -> Result<Observations, WorldError>
+        requires here { IsHere event.now }
+        requires rising { self.old.last < number }
+        requires within { number ≤ 1000000 }
+        requires stands { (m : Machine) × StandsFor self.old (M.images disk.old) m }
+        ensures serves { Serves self.old self.new (M.images disk.old) (M.images disk.new) event.now result }
+        ensures last { OnOk result (self.new.last ≡ number) }
+        ensures others { IfOk result TellsZero }
+        ensures faults { RoseBy (fault_lines 0 result) (M.faults disk.old) (M.faults disk.new) }
+        ensures marks { M.marks disk.new ≡ marks_after event.now result 0 (M.marks disk.old) }
+    {
         match event {
-            Event::Boot(primary, _) => self.boot(number, *primary),
-            Event::Client(replica, call) => self.client(number, *replica, call),
-            Event::Arm(..) | Event::Crash(..) | Event::Reboot(_) | Event::Inspect(_) =>
-                unreachable!(),
+            Event::Boot(primary, _) => self.boot(disk, number, *primary),
+            Event::Client(replica, call) => self.client(disk, number, *replica, call),
+            Event::Arm(replica, calls) => self.arm(disk, number, *replica, *calls),
+            Event::Crash(replica, pick) => self.crash(disk, number, *replica, *pick),
+            Event::Reboot(replica) => self.reboot(disk, number, *replica),
+            Event::Inspect(replica) => self.inspect(disk, number, *replica),
         }
     }
 
-    fn boot(&mut self, number: u64, primary: ReplicaId) -> Result<Observations, WorldError>
-        requires first { primary ≡ 0 }
+    fn boot<M: CrashDisk>(
+        &mut self,
+        disk: &mut M,
+        number: u64,
+        replica: ReplicaId,
+    ) -> Result<Observations, WorldError>
+        requires first { replica ≡ 0 }
         requires rising { self.old.last < number }
         requires within { number ≤ 1000000 }
-        ensures serves { Serves self.old self.new (Boot 0 (0 ∷ [])) result }
+        requires stands { (m : Machine) × StandsFor self.old (M.images disk.old) m }
+        ensures serves { Serves self.old self.new (M.images disk.old) (M.images disk.new) (Boot 0 (0 ∷ [])) result }
         ensures last { OnOk result (self.new.last ≡ number) }
+        ensures others { IfOk result TellsZero }
+        ensures faults { RoseBy (fault_lines 0 result) (M.faults disk.old) (M.faults disk.new) }
+        ensures marks { M.marks disk.new ≡ M.marks disk.old }
     {
         if self.booted {
             return self.answered(number, Observation::Refused(9));
         }
         let mut lines = Observations::new(self.alloc);
-        lines.push(Observation::Up(primary))?;
-        lines.push(Observation::View(primary, 0))?;
-        lines.push(Observation::Active(primary))?;
-        lines.push(Observation::Done)?;
+        self.replica = boot_replica(self.alloc, replica, disk, &mut lines)?;
         self.last = number;
         self.booted = true;
-        self.begins = 0;
-        self.shown = 0;
-        self.contents = State::empty(self.alloc);
-        self.live = None;
         Ok(lines)
     }
 
-    fn client(
+    fn client<M: CrashDisk>(
         &mut self,
+        disk: &mut M,
         number: u64,
         replica: ReplicaId,
         call: &Call,
     ) -> Result<Observations, WorldError>
+        requires fits { CallFits call.now }
         requires first { replica ≡ 0 }
         requires rising { self.old.last < number }
         requires within { number ≤ 1000000 }
-        ensures serves { Serves self.old self.new (Client 0 call.now) result }
+        requires stands { (m : Machine) × StandsFor self.old (M.images disk.old) m }
+        ensures serves { Serves self.old self.new (M.images disk.old) (M.images disk.new) (Client 0 call.now) result }
         ensures last { OnOk result (self.new.last ≡ number) }
+        ensures others { IfOk result TellsZero }
+        ensures faults { RoseBy (fault_lines 0 result) (M.faults disk.old) (M.faults disk.new) }
+        ensures marks { M.marks disk.new ≡ M.marks disk.old }
     {
         if !self.booted {
             return self.answered(number, Observation::Refused(9));
         }
-        match call {
-            Call::Begin => self.begin(number),
-            Call::Make(txn, ..) | Call::Get(txn, ..) | Call::Set(txn, ..) | Call::Commit(txn) => {
-                self.of_txn(number, replica, *txn, call)
+        let mut lines = Observations::new(self.alloc);
+        let Some(open) = &mut self.replica else {
+            return self.answered(number, Observation::Down(replica));
+        };
+        if waits_for_locks(open, call) {
+            return Err(WorldError::Unbuilt { lines });
+        }
+        match take_call(replica, open, disk, call, &mut lines) {
+            Ok(()) => {
+                self.last = number;
+                Ok(lines)
             }
+            Err(StepError::Disk) => self.faulted(number, replica, lines),
+            Err(StepError::NoMemory) => Err(WorldError::NoMemory),
         }
     }
 
-    fn begin(&mut self, number: u64) -> Result<Observations, WorldError>
-        requires booted { self.old.booted ≡ true }
+    fn arm<M: CrashDisk>(
+        &mut self,
+        disk: &mut M,
+        number: u64,
+        replica: ReplicaId,
+        calls: u64,
+    ) -> Result<Observations, WorldError>
+        requires one { 1 ≤ calls }
+        requires first { replica ≡ 0 }
         requires rising { self.old.last < number }
         requires within { number ≤ 1000000 }
-        ensures serves { Serves self.old self.new (Client 0 Begin) result }
+        requires stands { (m : Machine) × StandsFor self.old (M.images disk.old) m }
+        ensures serves { Serves self.old self.new (M.images disk.old) (M.images disk.new) (Arm 0 calls) result }
         ensures last { OnOk result (self.new.last ≡ number) }
+        ensures others { IfOk result TellsZero }
+        ensures faults { RoseBy (fault_lines 0 result) (M.faults disk.old) (M.faults disk.new) }
+        ensures marks { M.marks disk.new ≡ marks_after (Arm 0 calls) result 0 (M.marks disk.old) }
     {
-        let mut lines = Observations::new(self.alloc);
-        if self.live.is_some() {
-            return Err(WorldError::Unbuilt { lines });
+        if !self.booted {
+            return self.answered(number, Observation::Refused(9));
         }
-        let txn = TxnId {
-            epoch: FIRST_EPOCH,
-            n: self.begins + 1,
-        };
-        lines.push(Observation::Txn(txn))?;
-        self.last = number;
-        self.begins += 1;
-        self.live = Some(Going {
-            txn,
-            ops: Ops::new(self.alloc),
-        });
+        if self.replica.is_none() {
+            return self.answered(number, Observation::Down(replica));
+        }
+        let lines = self.answered(number, Observation::Done)?;
+        disk.arm(calls);
         Ok(lines)
     }
 
-    // A call of a transaction.
-    fn of_txn(
+    fn crash<M: CrashDisk>(
+        &mut self,
+        disk: &mut M,
+        number: u64,
+        replica: ReplicaId,
+        pick: u64,
+    ) -> Result<Observations, WorldError>
+        requires first { replica ≡ 0 }
+        requires rising { self.old.last < number }
+        requires within { number ≤ 1000000 }
+        requires stands { (m : Machine) × StandsFor self.old (M.images disk.old) m }
+        ensures serves { Serves self.old self.new (M.images disk.old) (M.images disk.new) (Crash 0 pick) result }
+        ensures last { OnOk result (self.new.last ≡ number) }
+        ensures others { IfOk result TellsZero }
+        ensures faults { RoseBy (fault_lines 0 result) (M.faults disk.old) (M.faults disk.new) }
+        ensures marks { M.marks disk.new ≡ marks_after (Crash 0 pick) result 0 (M.marks disk.old) }
+    {
+        if !self.booted {
+            return self.answered(number, Observation::Refused(9));
+        }
+        let lines = self.answered(number, Observation::Done)?;
+        self.replica = None;
+        disk.crash(pick);
+        Ok(lines)
+    }
+
+    fn reboot<M: CrashDisk>(
+        &mut self,
+        disk: &mut M,
+        number: u64,
+        replica: ReplicaId,
+    ) -> Result<Observations, WorldError>
+        requires first { replica ≡ 0 }
+        requires rising { self.old.last < number }
+        requires within { number ≤ 1000000 }
+        requires stands { (m : Machine) × StandsFor self.old (M.images disk.old) m }
+        ensures serves { Serves self.old self.new (M.images disk.old) (M.images disk.new) (Reboot 0) result }
+        ensures last { OnOk result (self.new.last ≡ number) }
+        ensures others { IfOk result TellsZero }
+        ensures faults { RoseBy (fault_lines 0 result) (M.faults disk.old) (M.faults disk.new) }
+        ensures marks { M.marks disk.new ≡ M.marks disk.old }
+    {
+        if !self.booted {
+            return self.answered(number, Observation::Refused(9));
+        }
+        if self.replica.is_some() {
+            return self.answered(number, Observation::IgnoredUp);
+        }
+        let mut lines = Observations::new(self.alloc);
+        self.replica = open_replica(self.alloc, replica, disk, &mut lines)?;
+        self.last = number;
+        Ok(lines)
+    }
+
+    fn inspect<M: CrashDisk>(
+        &mut self,
+        disk: &mut M,
+        number: u64,
+        replica: ReplicaId,
+    ) -> Result<Observations, WorldError>
+        requires first { replica ≡ 0 }
+        requires rising { self.old.last < number }
+        requires within { number ≤ 1000000 }
+        requires stands { (m : Machine) × StandsFor self.old (M.images disk.old) m }
+        ensures serves { Serves self.old self.new (M.images disk.old) (M.images disk.new) (Inspect 0) result }
+        ensures last { OnOk result (self.new.last ≡ number) }
+        ensures others { IfOk result TellsZero }
+        ensures faults { RoseBy (fault_lines 0 result) (M.faults disk.old) (M.faults disk.new) }
+        ensures marks { M.marks disk.new ≡ M.marks disk.old }
+    {
+        let _ = disk;
+        if !self.booted {
+            return self.answered(number, Observation::Refused(9));
+        }
+        let Some(opened) = &self.replica else {
+            return self.answered(number, Observation::Down(replica));
+        };
+        let lines = inspected(self.alloc, replica, opened.contents())?;
+        self.last = number;
+        Ok(lines)
+    }
+
+    // An event in a step of which the disk failed, behind these lines: the replica is closed.
+    fn faulted(
         &mut self,
         number: u64,
         replica: ReplicaId,
-        txn: TxnId,
-        call: &Call,
+        mut lines: Observations,
     ) -> Result<Observations, WorldError>
-        requires booted { self.old.booted ≡ true }
-        requires first { replica ≡ 0 }
-        requires named { txn_named call.now ≡ Some txn }
-        requires rising { self.old.last < number }
-        requires within { number ≤ 1000000 }
-        ensures serves { Serves self.old self.new (Client 0 call.now) result }
-        ensures last { OnOk result (self.new.last ≡ number) }
+        ensures lines { IfOk result (λ told. told ≡ lines ++ Observation.Fault replica ∷ []) }
+        ensures closed { OnOk result (self.new ≡ record self.old { last = number; replica = None }) }
+        ensures memory { OnErr result (result ≡ Err WorldError.NoMemory) }
     {
-        if !self.is_going(txn) {
-            return self.answered(number, Observation::Ended(txn));
-        }
-        match reply_at(&self.contents, call)? {
-            Some(reply) => self.replied(number, reply),
-            None => self.committed(number, replica, txn),
-        }
+        self.replica = None;
+        lines.push(Observation::Fault(replica))?;
+        self.last = number;
+        Ok(lines)
     }
 
-    fn is_going(&self, txn: TxnId) -> bool
-        ensures { result ≡ goes_on self.now.live txn }
-    {
-        self.live.as_ref().is_some_and(|going| going.txn == txn)
-    }
-
-    // An event that is answered and changes nothing.
+    // An event that is answered and changes nothing but the count of events.
     fn answered(&mut self, number: u64, answer: Observation) -> Result<Observations, WorldError>
-        requires rising { self.old.last < number }
-        requires within { number ≤ 1000000 }
         ensures lines { IfOk result (λ lines. lines ≡ answer ∷ []) }
         ensures stays { OnOk result (self.new ≡ record self.old { last = number }) }
         ensures memory { OnErr result (result ≡ Err WorldError.NoMemory) }
@@ -219,53 +315,6 @@ impl World {
         let mut lines = Observations::new(self.alloc);
         lines.push(answer)?;
         self.last = number;
-        Ok(lines)
-    }
-
-    // A call on a collection.
-    fn replied(&mut self, number: u64, reply: Reply) -> Result<Observations, WorldError>
-        requires rising { self.old.last < number }
-        requires within { number ≤ 1000000 }
-        ensures lines { IfOk result (λ lines. lines ≡ reply.answer ∷ []) }
-        ensures logged { OnOk result (self.new ≡ record (with_reply reply self.old) { last = number }) }
-        ensures memory { OnErr result (result ≡ Err WorldError.NoMemory) }
-    {
-        let mut lines = Observations::new(self.alloc);
-        let Reply { answer, op } = reply;
-        lines.push(answer)?;
-        if let Some(op) = op {
-            self.contents.apply(&op)?;
-            if let Some(going) = &mut self.live {
-                going.ops.push(op)?;
-            }
-        }
-        self.last = number;
-        Ok(lines)
-    }
-
-    // The commit of the transaction that goes on, which is shown at once.
-    fn committed(
-        &mut self,
-        number: u64,
-        replica: ReplicaId,
-        txn: TxnId,
-    ) -> Result<Observations, WorldError>
-        requires rising { self.old.last < number }
-        requires within { number ≤ 1000000 }
-        ensures lines { IfOk result (λ lines. lines ≡ Observation.Order txn (ops_going self.old.live) ∷ Observation.View replica (self.old.shown + 1) ∷ Observation.Committed txn ∷ []) }
-        ensures shown { OnOk result (self.new ≡ record self.old { last = number; shown = self.old.shown + 1; live = None }) }
-        ensures memory { OnErr result (result ≡ Err WorldError.NoMemory) }
-    {
-        let ops = match self.live.take() {
-            Some(going) => going.ops,
-            None => Ops::new(self.alloc),
-        };
-        let mut lines = Observations::new(self.alloc);
-        lines.push(Observation::Order(txn, ops))?;
-        lines.push(Observation::View(replica, self.shown + 1))?;
-        lines.push(Observation::Committed(txn))?;
-        self.last = number;
-        self.shown += 1;
         Ok(lines)
     }
 }

@@ -1,6 +1,11 @@
-use Rattle.std.proofs.Common.{◌≡◌, vec_len}
+use Rattle.std.proofs.Common.{◌≡◌, All, vec_len}
+use Rattle.disk_model.specs.contracts.memory.MemDiskDisk.TheImpl as memory
+use Rattle.relstate.specs.Fleet.{IsFresh}
 use Rattle.relstate.proofs.nine_disks.Given as goal
 
--- one disk for each turn
+-- one fresh disk for each turn
 abbrev pub invariant-loop : goal.invariant-loop
-invariant-loop l = vec_len l.fleet ≡ l.counter
+invariant-loop l = record {
+  nine : vec_len l.fleet ≡ l.counter;
+  fresh : All (IsFresh memory.images-value.it memory.faults-value.it memory.marks-value.it memory.calls_left-value.it) l.fleet.items;
+}

@@ -1,44 +1,46 @@
-use Rattle.std.proofs.Common.{◌∙◌, sym, ap, subst, List, ◌++◌, Some, Ok, Err, refl, inr, take}
+use Rattle.std.proofs.Common.{◌∙◌, sym, ap, subst, List, ◌∷◌, ◌++◌, Some, Ok, Err, refl, inr, take}
 use Rattle.std.specs.Io.KnownBytes.{append_known}
 use Rattle.order_machine.specs.declared.observation.Observation.{Observation}
 use Rattle.order_machine.specs.Machine.{empty_machine}
 use Rattle.order_machine.specs.Legal.{moved_all}
 use Rattle.order_machine.specs.Lines.{lines_text}
 use Rattle.world.specs.declared.error.WorldError.{WorldError}
-use Rattle.script_text.specs.declared.event.Event.{Event}
-use Rattle.script_text.specs.declared.event.Event.TheVariants.{Boot, Client, Arm, Crash, Reboot, Inspect}
-use Rattle.script_text.specs.Sentence.{IsBuilt}
-use Rattle.world.specs.World.{IsHere, Serves}
+use Rattle.relstate.specs.Ran.{CutShort}
 use Rattle.relstate.specs.Reached.{Writes}
 use Rattle.relstate.specs.declared.lines.WriteError.{WriteError}
-use Rattle.relstate.proofs.Reach.{ends_at_bad_line, after_event, event_cut_off}
+use Rattle.relstate.proofs.Calls.{here}
+use Rattle.relstate.proofs.Disks.{Did, keeps_failed, keeps_unwritten}
+use Rattle.relstate.proofs.Reach.{ends_at_bad_line, after_event, event_cut_off, stops}
 use Rattle.relstate.proofs.run.do_event.Goals as goal
-
-here : (event : Event) → IsBuilt event → IsHere event
-here (Boot p members) h = h
-here (Client r call) h = h.0
-here (Arm r calls) h = absurd h
-here (Crash r pick) h = absurd h
-here (Reboot r) h = absurd h
-here (Inspect r) h = absurd h
 
 pub event-requires-clause-here : goal.event-requires-clause-here
 event-requires-clause-here g c = here c.args.event.now c.requires.built
 
 pub returns-in-Err-Unbuilt-clause-done : goal.returns-in-Err-Unbuilt-clause-done
 returns-in-Err-Unbuilt-clause-done g c =
-    let S : WorldError → Type 0 = λ e. Serves c.args.world.now c.event.new.self c.args.event.now (Err e) in
-    let serves = subst S c.in-Err-Unbuilt.field-0-is c.in-Err-Unbuilt.ensures.serves in
-    λ input held holds before left raw spells at l d h.
+    let S : WorldError → Type 0 = λ e. Did g.M.Disk.images g.M.Disk.faults g.M.Disk.marks c.args.world.now c.event.new.self c.args.fleet.now.items c.event.new.fleet.items c.args.event.now (Err e) in
+    let did = subst S c.in-Err-Unbuilt.field-0-is (record { serves = c.in-Err-Unbuilt.ensures.serves; still = c.in-Err-Unbuilt.ensures.still; faulted = c.in-Err-Unbuilt.ensures.faults; marked = c.in-Err-Unbuilt.ensures.marks }) in
+    λ input held holds before left raw first spells at l d h.
     ends_at_bad_line input held holds before left raw c.args.world.now _ _ c.args.number c.ended.result c.write_bad_line.result d
-    (inr (c.args.event.now, spells, serves.1 (moved_all empty_machine d.steps) d.stands)) at h c.write_bad_line.ensures.writes c.ended.ensures
+    (keeps_failed input held holds before (raw ∷ left) c.args.world.now c.event.new.self c.args.event.now _ d did (raw ∷ left))
+    (inr (c.args.event.now, spells, (did.serves.1 (moved_all empty_machine d.steps) d.stands).0)) at h c.write_bad_line.ensures.writes c.ended.ensures
+
+pub returns-in-Err-NoMemory-clause-done : goal.returns-in-Err-NoMemory-clause-done
+returns-in-Err-NoMemory-clause-done g c =
+    let did : Did g.M.Disk.images g.M.Disk.faults g.M.Disk.marks c.args.world.now c.event.new.self c.args.fleet.now.items c.event.new.fleet.items c.args.event.now (Err c.in-Err-NoMemory.field-0) =
+    record { serves = c.in-Err-NoMemory.ensures.serves; still = c.in-Err-NoMemory.ensures.still; faulted = c.in-Err-NoMemory.ensures.faults; marked = c.in-Err-NoMemory.ensures.marks } in
+    λ input held holds before left raw first spells at l d h.
+    stops input held holds before (raw ∷ left) c.args.world.now _ CutShort 8 d
+    (keeps_failed input held holds before (raw ∷ left) c.args.world.now c.event.new.self c.args.event.now c.in-Err-NoMemory.field-0 d did (raw ∷ left) 8) tt (inr refl) refl h
 
 pub returns-in-Ok-write_lines-clause-done : goal.returns-in-Ok-write_lines-clause-done
 returns-in-Ok-write_lines-clause-done g c =
-    λ input held holds before left raw spells at l d h. (
+    let did : Did g.M.Disk.images g.M.Disk.faults g.M.Disk.marks c.args.world.now c.event.new.self c.args.fleet.now.items c.event.new.fleet.items c.args.event.now (Ok c.in-Ok.lines) =
+    record { serves = c.in-Ok.ensures.serves; still = c.in-Ok.ensures.still; faulted = c.in-Ok.ensures.faults; marked = c.in-Ok.ensures.marks } in
+    λ input held holds before left raw first spells at l d h. (
       holds ++ lines_text c.args.number c.in-Ok.lines,
       c.in-Ok-write_lines.ensures.writes ∙ ap (λ o. append_known o (lines_text c.args.number c.as_slice.result.now)) h ∙ ap (λ (ls : List Observation). Some (holds ++ lines_text c.args.number ls)) c.as_slice.ensures,
-      after_event input held holds _ before left raw c.args.world.now c.event.new.self c.args.number c.args.event.now c.in-Ok.lines d l spells at c.in-Ok.ensures.serves refl,
+      after_event input held holds _ before left raw c.args.world.now c.event.new.self c.args.number c.args.event.now c.in-Ok.lines d l spells at did refl,
     )
 
 pub returns-in-Err-Failed-clause-done : goal.returns-in-Err-Failed-clause-done
@@ -46,7 +48,18 @@ returns-in-Err-Failed-clause-done g c =
     let text = lines_text c.args.number c.as_slice.result.now in
     let W : WriteError → Type 0 = λ e. Writes {T = Unit {0}} text (g.K.Sink.holds c.args.sink.now) (g.K.Sink.holds c.write_lines.new.sink) (Err e) in
     let wrote = subst W c.in-Err-Failed.field-0-is c.in-Err-Failed.ensures.writes in
-    λ input held holds before left raw spells at l d h.
-    event_cut_off input held holds before left raw c.args.world.now c.event.new.self _ c.args.number c.args.event.now c.as_slice.result.now wrote.0 d l spells at
-    (subst (λ (ls : List Observation). Serves c.args.world.now c.event.new.self c.args.event.now (Ok ls)) (sym c.as_slice.ensures) c.in-Ok.ensures.serves)
+    let S : List Observation → Type 0 = λ ls. Did g.M.Disk.images g.M.Disk.faults g.M.Disk.marks c.args.world.now c.event.new.self c.args.fleet.now.items c.event.new.fleet.items c.args.event.now (Ok ls) in
+    let did = subst S (sym c.as_slice.ensures) (record { serves = c.in-Ok.ensures.serves; still = c.in-Ok.ensures.still; faulted = c.in-Ok.ensures.faults; marked = c.in-Ok.ensures.marks }) in
+    λ input held holds before left raw first spells at l d h.
+    event_cut_off input held holds before left raw c.args.world.now c.event.new.self _ c.args.number c.args.event.now c.as_slice.result.now wrote.0 d l spells at did
     (wrote.1 ∙ ap (λ o. append_known o (take wrote.0 text)) h)
+
+pub returns-clause-done : goal.returns-clause-done
+returns-clause-done g c =
+    let W : WriteError → Type 0 = λ e. Writes {T = Unit {0}} (lines_text c.args.number c.as_slice.result.now) (g.K.Sink.holds c.args.sink.now) (g.K.Sink.holds c.write_lines.new.sink) (Err e) in
+    let wrote = subst W c.in-Err-NoMemory-write_lines.field-0-is c.in-Err-NoMemory-write_lines.ensures.writes in
+    let did : Did g.M.Disk.images g.M.Disk.faults g.M.Disk.marks c.args.world.now c.event.new.self c.args.fleet.now.items c.event.new.fleet.items c.args.event.now (Ok c.in-Ok.lines) =
+    record { serves = c.in-Ok.ensures.serves; still = c.in-Ok.ensures.still; faulted = c.in-Ok.ensures.faults; marked = c.in-Ok.ensures.marks } in
+    λ input held holds before left raw first spells at l d h.
+    stops input held holds before (raw ∷ left) c.args.world.now _ CutShort 8 d
+    (keeps_unwritten input held holds before left raw c.args.world.now c.event.new.self c.args.event.now c.in-Ok.lines d did spells) tt (inr refl) refl (wrote ∙ h)

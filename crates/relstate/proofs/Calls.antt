@@ -1,0 +1,43 @@
+-- What a sentence may hold a world can do.
+use Rattle.std.proofs.Common.{ℕ, Bool, true, false, ◌&&◌, List, length, nat_le, IsTrue, refl}
+use Rattle.std.specs.List.{list_all}
+use Rattle.std.proofs.lemmas.Bool.{false≢true}
+use Rattle.log_records.specs.Spelling.{is_key, is_value}
+use Rattle.script_text.specs.Letters.{is_key_letter, is_key_word, is_value_word}
+use Rattle.script_text.specs.declared.event.Event.{Event}
+use Rattle.script_text.specs.declared.event.Event.TheVariants.{Boot, Client, Arm, Crash, Reboot, Inspect}
+use Rattle.script_text.specs.declared.event.Call.{Call}
+use Rattle.script_text.specs.declared.event.Call.TheVariants as calls
+use Rattle.script_text.specs.Sentence.{IsBuilt, IsBuiltCall}
+use Rattle.replica.specs.Step.{CallFits}
+use Rattle.world.specs.World.{IsHere}
+
+first_true : (a b : Bool) → IsTrue (a && b) → IsTrue a
+first_true true b h = refl
+first_true false b h = h
+
+second_true : (a b : Bool) → IsTrue (a && b) → IsTrue b
+second_true true b h = h
+second_true false b h = absurd (false≢true h)
+
+-- a key of a sentence is one of a record, and so is a value
+key_fits : (text : List ℕ) → IsTrue (is_key_word text) → IsTrue (is_key text)
+key_fits text h = first_true (is_key text) (list_all is_key_letter text) h
+
+value_fits : (text : List ℕ) → IsTrue (is_value_word text) → IsTrue (is_value text)
+value_fits text h = second_true (nat_le 1 (length text)) (is_value text) (first_true (nat_le 1 (length text) && is_value text) (list_all is_key_letter text) h)
+
+call_fits : (call : Call) → IsBuiltCall call → CallFits call
+call_fits calls.Begin h = tt
+call_fits (calls.Make t name kind) h = h.1
+call_fits (calls.Get t name key) h = tt
+call_fits (calls.Set t name key value) h = (h.1, key_fits key h.2, value_fits value h.3)
+call_fits (calls.Commit t) h = tt
+
+pub here : (event : Event) → IsBuilt event → IsHere event
+here (Boot p members) h = h
+here (Client r call) h = (h.0, call_fits call h.1)
+here (Arm r calls) h = (h.0, h.1)
+here (Crash r pick) h = h.0
+here (Reboot r) h = h
+here (Inspect r) h = h

@@ -1,0 +1,77 @@
+-- Events that have one line, and change nothing but the count of events.
+use Rattle.std.proofs.Common.{◌≡◌, ◌∙◌, sym, ap, subst, refl, ℕ, ◌≤◌, true, false, List, [], ◌∷◌, Some, None, Result, Ok, Err, IfOk, OnOk, OnErr}
+use Rattle.disk_model.specs.Disk.{Areas}
+use Rattle.script_text.specs.declared.event.Event.{Event}
+use Rattle.script_text.specs.declared.event.Event.TheVariants.{Boot, Arm, Reboot, Inspect}
+use Rattle.order_machine.specs.declared.observation.Observation.{Observation}
+use Rattle.order_machine.specs.declared.observation.Observation.TheVariants as says
+use Rattle.order_machine.specs.Machine.{Machine, empty_machine}
+use Rattle.order_machine.specs.Rows.{IsUnbuilt, refusal}
+use Rattle.order_machine.specs.Legal.{IsWhole, moved}
+use Rattle.replica.specs.Open.{Open}
+use Rattle.world.specs.declared.error.WorldError.{WorldError}
+use Rattle.world.specs.declared.error.WorldError.TheVariants as errors
+use Rattle.world.specs.Kept.{Kept}
+use Rattle.world.specs.World.{StandsFor, StillHolds, Serves}
+use Rattle.world.proofs.Refusals.{refused_serves}
+use Rattle.world.proofs.Later.{new_of, closed_of, open_of, booted_stands, up_role, stands_later}
+use Rattle.world.proofs.Still.{stands_still}
+
+-- what the event changes where it is answered so: nothing
+pub record IsAnswered (m : Machine) (event : Event) (o : Observation) : Type 0 where
+  pub whole : IsWhole m event (o ∷ [])
+  pub same : moved m event (o ∷ []) ≡ m
+  pub built : IsUnbuilt m event → ⊥
+
+pub answered_refused : (m : Machine) (event : Event) (o : Observation) → refusal m event ≡ Some o → (IsUnbuilt m event → ⊥) → IsAnswered m event o
+answered_refused m event o e built = let r = refused_serves m event o e in record { whole = r.0; same = r.1; built = built }
+
+-- ---- the event is served
+
+no_memory : (old new : Kept) (before now : Areas → Type 0) (event : Event) (e : WorldError) → ((m : Machine) → StandsFor old before m → StillHolds m now) → ◌≡◌ {A = Result (List Observation) WorldError} (Err e) (Err errors.NoMemory) → Serves old new before now event (Err e)
+no_memory old new before now event e still is =
+    let none : e ≡ errors.NoMemory = cc in
+    subst (λ x. Serves old new before now event (Err x)) (sym none) still
+
+pub answered_serves : (old new : Kept) (images : Areas → Type 0) (event : Event) (o : Observation) (number : ℕ) (result : Result (List Observation) WorldError) →
+    IfOk result (λ lines. lines ≡ o ∷ []) → OnOk result (new ≡ record old { last = number }) → OnErr result (result ≡ Err errors.NoMemory) →
+    old.last ≤ number → ((m : Machine) → StandsFor old images m → IsAnswered m event o) → Serves old new images images event result
+answered_serves old new images event o number (Ok lines) told kept memory rising answered =
+    subst (λ ls. Serves old new images images event (Ok ls)) (sym told)
+    (λ m s.
+    let a = answered m s in
+    let later : StandsFor new images m = subst (λ k. StandsFor k images m) (sym kept) (stands_later old number images m rising s) in
+    (a.whole, subst (λ n. StandsFor new images n) (sym a.same) later, a.built, stands_still old images m s))
+answered_serves old new images event o number (Err e) told kept memory rising answered = no_memory old new images images event e (λ m s. stands_still old images m s) memory
+
+-- where memory ran out before anything was done
+pub err_serves : {T : Type 0} (old new : Kept) (before now : Areas → Type 0) (event : Event) (result : Result (List Observation) WorldError) (e : WorldError) → ((m : Machine) → StandsFor old before m → StillHolds m now) → (y : WorldError) × (result ≡ Err y) × (y ≡ e) → ◌≡◌ {A = Result T WorldError} (Err e) (Err errors.NoMemory) → Serves old new before now event result
+err_serves old new before now event result e still y is =
+    let none : e ≡ errors.NoMemory = cc in
+    let all : result ≡ Err errors.NoMemory = y.1 ∙ ap Err (y.2 ∙ none) in
+    subst (λ r. Serves old new before now event r) (sym all) still
+
+-- ---- which are answered so
+
+-- before the boot
+pub new_refuses : (k : Kept) (images : Areas → Type 0) (event : Event) → k.booted ≡ false → refusal empty_machine event ≡ Some (says.Refused 9) → (m : Machine) → StandsFor k images m → refusal m event ≡ Some (says.Refused 9)
+new_refuses k images event new e m s = let n = new_of k images m new s in subst (λ x. refusal x event ≡ Some (says.Refused 9)) (sym n.is) e
+
+-- a second boot
+pub boot_refuses : (k : Kept) (images : Areas → Type 0) → k.booted ≡ true → (m : Machine) → StandsFor k images m → refusal m (Boot 0 (0 ∷ [])) ≡ Some (says.Refused 9)
+boot_refuses k images booted m s = rw (booted_stands k images m booted s) refl
+
+-- what asks something of a closed replica
+pub arm_down : (k : Kept) (images : Areas → Type 0) (calls : ℕ) → k.booted ≡ true → k.replica ≡ None → (m : Machine) → StandsFor k images m → refusal m (Arm 0 calls) ≡ Some (says.Down 0)
+arm_down k images calls booted none m s = let c = closed_of k images m booted none s in rw c.is_shut.is refl
+
+pub inspect_down : (k : Kept) (images : Areas → Type 0) → k.booted ≡ true → k.replica ≡ None → (m : Machine) → StandsFor k images m → refusal m (Inspect 0) ≡ Some (says.Down 0)
+inspect_down k images booted none m s = let c = closed_of k images m booted none s in rw c.is_shut.is refl
+
+-- what opens an open one
+pub reboot_ignored : (k : Kept) (images : Areas → Type 0) (r : Open) → k.booted ≡ true → k.replica ≡ Some r → (m : Machine) → StandsFor k images m → refusal m (Reboot 0) ≡ Some says.IgnoredUp
+reboot_ignored k images r booted some m s = rw (booted_stands k images m booted s, up_role r.role k.last r images m (open_of k images m r booted some s)) refl
+
+-- the same, of another error that tells want of memory
+pub memory_serves : (old new : Kept) (before now : Areas → Type 0) (event : Event) (result : Result (List Observation) WorldError) → ((m : Machine) → StandsFor old before m → StillHolds m now) → (y : WorldError) × (result ≡ Err y) × (y ≡ errors.NoMemory) → Serves old new before now event result
+memory_serves old new before now event result still y = subst (λ r. Serves old new before now event r) (sym (y.1 ∙ ap Err y.2)) still

@@ -1,0 +1,221 @@
+-- The boot of replica 0 over a disk without a log.
+use Rattle.std.proofs.Common.{◌≡◌, ◌∙◌, sym, ap, subst, refl, ℕ, ◌+◌, ◌≤◌, true, false, List, [], ◌∷◌, ◌++◌, length, flat_map, Option, Some, None, Result, Ok, arith, inl, inr, ◌⊎◌, ⊎_elim, suc}
+use Rattle.std.specs.Option.{ForSome, IsSome, IfSome}
+use Rattle.std.proofs.lemmas.Bool.{false≢true}
+use Rattle.std.proofs.lemmas.Option.{none-some}
+use Rattle.rc_base.specs.Ids.{no_epoch, epoch_lt}
+use Rattle.coll_model.specs.Effect.{folded}
+use Rattle.disk_model.specs.Disk.{Areas, Follows}
+use Rattle.log_store.specs.declared.kept.Kept.{Kept as Log}
+use Rattle.log_store.specs.Durable.{durable, StandFor}
+use Rattle.log_store.specs.Fold.{Place, no_log}
+use Rattle.log_store.specs.Growth.{new_log}
+use Rattle.log_store.specs.Log.{commits_in}
+use Rattle.log_store.specs.Store.{Store, KeepsOrBegins}
+use Rattle.script_text.specs.declared.event.Event.TheVariants.{Boot}
+use Rattle.order_machine.specs.declared.observation.Observation.{Observation}
+use Rattle.order_machine.specs.declared.observation.Observation.TheVariants as says
+use Rattle.order_machine.specs.Machine.{Machine, empty_machine}
+use Rattle.order_machine.specs.Legal.{IsWhole, moved}
+use Rattle.order_machine.specs.Rows.{first_epoch}
+use Rattle.replica.specs.declared.role.Role.TheVariants.{Other}
+use Rattle.replica.specs.declared.step.StepEvent.{StepEvent}
+use Rattle.replica.specs.declared.step.StepEvent.TheVariants as steps
+use Rattle.replica.specs.Open as opens
+use Rattle.replica.specs.Open.{Open, AgreesWith, stable_in, commits_to}
+use Rattle.replica.specs.Step.{MayStep}
+use Rattle.world.specs.Fleet.{faults_in, TellsZero}
+use Rattle.world.specs.Steps.{told_by, finished, log_once, log_twice, log_behind, HoldsSome}
+use Rattle.world.specs.Kept.{Kept}
+use Rattle.world.specs.World.{running, Runs, StandsFor, AsReplica, Serving, IsOpen, IsSound, Serves, StillHolds}
+use Rattle.world.proofs.Later.{new_of, as_replica, replica_later}
+use Rattle.world.proofs.Faultless.{fault_first}
+use Rattle.world.proofs.BootLines.{mounted, boot_lines, boot_serves, boot_mount_faults, boot_start_faults, boot_barrier_faults}
+use Rattle.world.proofs.Readable.{an_image}
+use Rattle.world.proofs.Reopening.{AreSound, sound_all, sound_follows}
+
+abbrev pub first_start : StepEvent
+first_start = steps.Start first_epoch
+
+-- ---- the log that an opening begins
+
+same_log : (a b : Log) → ◌≡◌ {A = Result Log Place} (Ok a) (Ok b) → a ≡ b
+same_log a b e = cc
+
+pub log_is_new : (r : Open) (log : Log) (images now : Areas → Type 0) (seen : Option Areas) → StandFor no_log images → Follows (KeepsOrBegins 0) images now → IsSome seen → ForSome seen now → IsOpen r log now → log ≡ new_log 0
+log_is_new r log images now seen empty follows told shown o =
+    let there = an_image seen now told shown in
+    let c = there.0 in
+    let from = follows c there.1 in
+    ⊎_elim
+    (λ kept. absurd (none-some r.log.identity (ap (λ (l : Log). l.identity) (sym (same_log log no_log (sym (o.stands c there.1) ∙ (kept ∙ empty from.0 from.1)))) ∙ o.agrees.identity)))
+    (λ begun. same_log log (new_log 0) (sym (o.stands c there.1) ∙ begun.1))
+    from.2.0
+
+-- what a replica keeps that was opened over it
+pub record IsFresh (r : Open) : Type 0 where
+  pub id : r.id ≡ 0
+  pub epoch : r.epoch ≡ no_epoch
+  pub last : r.last.0 ≡ 0
+  pub shown : r.shown ≡ 0
+  pub contents : r.contents ≡ []
+  pub ahead : r.ahead ≡ []
+  pub role : r.role ≡ Other
+  pub begins : r.begins ≡ 0
+
+pub fresh_over_new : (r : Open) (log : Log) (now : Areas → Type 0) → log ≡ new_log 0 → IsOpen r log now → r.stable.0 ≡ stable_in log.records → r.role ≡ Other → r.begins ≡ 0 → IsFresh r
+fresh_over_new r log now new o stable role begins =
+    let agrees : AgreesWith r (new_log 0) = subst (AgreesWith r) new o.agrees in
+    let zero_stable : r.stable.0 ≡ 0 = stable ∙ ap (λ (l : Log). stable_in l.records) new in
+    let none : commits_to r.stable.0 [] ≡ [] = ap (λ (n : ℕ). commits_to n []) zero_stable in
+    record {
+      id = o.first;
+      epoch = sym agrees.epoch;
+      last = sym agrees.last;
+      shown = sym agrees.shown ∙ ap length none;
+      contents = sym agrees.contents ∙ ap opens.state_of none;
+      ahead = sym (agrees.commits ∙ ap (λ cs. cs ++ r.ahead) none);
+      role = role;
+      begins = begins;
+    }
+
+pub fresh_may_start : (r : Open) → IsFresh r → MayStep r first_start
+fresh_may_start r f = ap (λ e. epoch_lt e first_epoch) f.epoch
+
+pub told_start : (r : Open) → IsFresh r → told_by r first_start ≡ says.Active 0 ∷ []
+told_start r f = rw (f.ahead, f.shown, f.role, f.id) refl
+
+-- the lines of the opening
+abbrev pub opened_lines : ℕ → List Observation
+opened_lines shown = says.Up 0 ∷ says.View 0 shown ∷ []
+
+-- an opening over a disk without a log, and its lines
+pub record IsOverNew (r : Open) (now : Areas → Type 0) (lines : List Observation) : Type 0 where
+  pub log : Log
+  pub is_new : log ≡ new_log 0
+  pub is_open : IsOpen r log now
+  pub fresh : IsFresh r
+  pub told : lines ≡ opened_lines r.shown
+
+pub over_new : (o : Option Open) (r : Open) (images now : Areas → Type 0) (seen : Option Areas) (begun lines : List Observation) → begun ≡ [] → o ≡ Some r → StandFor no_log images → Follows (KeepsOrBegins 0) images now → IsSome seen → ForSome seen now →
+    IfSome o (λ r. (log : Log) × IsOpen r log now × (r.stable.0 ≡ stable_in log.records)) → IfSome o (λ r. (r.role ≡ Other) × (r.begins ≡ 0) × (r.live ≡ None)) → IfSome o (λ r. lines ≡ begun ++ opened_lines r.shown) → IsOverNew r now lines
+over_new o r images now seen begun lines nothing some empty follows told shown opened fresh lines_are =
+    let at = subst (λ w. IfSome w (λ r. (log : Log) × IsOpen r log now × (r.stable.0 ≡ stable_in log.records))) some opened in
+    let new = log_is_new r at.0 images now seen empty follows told shown at.1 in
+    let first = subst (λ w. IfSome w (λ r. (r.role ≡ Other) × (r.begins ≡ 0) × (r.live ≡ None))) some fresh in
+    let all = subst (λ w. IfSome w (λ r. lines ≡ begun ++ opened_lines r.shown)) some lines_are in
+    record { log = at.0; is_new = new; is_open = at.1; fresh = fresh_over_new r at.0 now new at.1 at.2 first.0 first.1; told = all ∙ ap (λ ls. ls ++ opened_lines r.shown) nothing }
+
+-- ---- the boot
+
+-- the lines and the state behind them
+abbrev pub Boots : Option Open → (Areas → Type 0) → List Observation → Type 0
+Boots o now lines = IsWhole empty_machine (Boot 0 (0 ∷ [])) lines × AsReplica o 1 now (moved empty_machine (Boot 0 (0 ∷ [])) lines)
+
+pub started_lines : (r : Open) (opened lines : List Observation) → IsFresh r → opened ≡ opened_lines r.shown → lines ≡ (opened ++ told_by r first_start) ++ says.Done ∷ [] → lines ≡ boot_lines
+started_lines r opened lines f is all =
+    all ∙ ap (λ ls. ls ++ says.Done ∷ []) (ap (λ ls. ls ++ told_by r first_start) (is ∙ ap opened_lines f.shown) ∙ ap (λ ls. opened_lines 0 ++ ls) (told_start r f))
+
+started_runs : (r : Open) (store : Store) (m : Machine) → IsFresh r → m ≡ running [] [] [] 0 → Runs 0 (r.shown + length r.ahead) (folded r.contents (flat_map (λ c. c.ops) r.ahead)) None m
+started_runs r store m f is = record {
+  entries = [];
+  acknowledged = [];
+  txns = [];
+  is = is;
+  all_shown = rw (f.shown, f.ahead) refl;
+  sees = rw (f.contents, f.ahead) refl;
+  each = λ t x e. absurd (none-some x e);
+  live_known = λ going e. absurd (none-some going e);
+  held = λ t e. absurd (false≢true e);
+  held_begun = λ t e. absurd (false≢true e);
+}
+
+pub boots_whole : (r x : Open) (log : Log) (now : Areas → Type 0) (opened lines : List Observation) → IsFresh r → log ≡ new_log 0 → x ≡ record (finished r first_start) { log = x.log } → IsOpen x (log_behind r first_start log) now →
+    opened ≡ opened_lines r.shown → lines ≡ (opened ++ told_by r first_start) ++ says.Done ∷ [] → Boots (Some x) now lines
+unfolding started_runs
+boots_whole r x log now opened lines f new kept o is all =
+    let y : Open = record (finished r first_start) { log = x.log } in
+    let served : Serving 1 y now (moved empty_machine (Boot 0 (0 ∷ [])) boot_lines) = record {
+      runs = started_runs r x.log _ f boot_serves.1;
+      log = log_behind r first_start log;
+      is_open = subst (λ (z : Open). IsOpen z (log_behind r first_start log) now) kept o;
+      epoch = refl;
+      commits = subst (λ (l : Log). [] ≡ commits_in (log_behind r first_start l).records) (sym new) refl;
+      short = subst (λ (l : Log). length (log_behind r first_start l).records ≤ 3) (sym new) (omega arith);
+      few = omega arith;
+    } in
+    subst (Boots (Some x) now) (sym (started_lines r opened lines f is all))
+    (boot_serves.0, subst (λ (z : Open). AsReplica (Some z) 1 now (moved empty_machine (Boot 0 (0 ∷ [])) boot_lines)) (sym kept) served)
+
+-- ---- its faults
+
+-- the disk failed as the replica was opened
+pub boots_unopened : (images now : Areas → Type 0) (lines : List Observation) → StandFor no_log images → Follows (KeepsOrBegins 0) images now → lines ≡ says.Fault 0 ∷ [] → Boots None now lines
+boots_unopened images now lines empty follows is =
+    let sound : AreSound [] 1 images = λ c there. (no_log, empty c there, sound_all [] 1 no_log refl (omega arith)) in
+    subst (Boots None now) (sym is) (
+      boot_mount_faults.0,
+      record {
+        entries = [];
+        is_shut = record { acknowledged = []; txns = []; was_active = false; shown = 0; is = boot_mount_faults.1 };
+        sound = sound_follows [] 1 images now follows sound;
+      },
+    )
+
+-- each of the three logs is sound
+sound_start : (r : Open) (log : Log) (now : Areas → Type 0) → log ≡ new_log 0 → HoldsSome r first_start log now → AreSound [] 1 now
+sound_start r log now new holds = λ c is. ⊎_elim
+    (λ (before : durable c ≡ Ok log). (log, before, subst (IsSound [] 1) (sym new) (sound_all [] 1 (new_log 0) refl (omega arith))))
+    (λ more. ⊎_elim
+    (λ (once : durable c ≡ Ok (log_once r first_start log)). (log_once r first_start log, once, subst (λ (l : Log). IsSound [] 1 (log_once r first_start l)) (sym new) (sound_all [] 1 (log_once r first_start (new_log 0)) refl (omega arith))))
+    (λ twice. (log_twice r first_start log, twice.1, subst (λ (l : Log). IsSound [] 1 (log_twice r first_start l)) (sym new) (sound_all [] 1 (log_twice r first_start (new_log 0)) refl (omega arith))))
+    more)
+    (holds c is)
+
+-- the lines before the fault are those of the opening, or all of the boot
+abbrev pub IsCut : Open → List Observation → List Observation → Type 0
+IsCut r opened before = (before ≡ opened) ⊎ (before ≡ (opened ++ told_by r first_start) ++ says.Done ∷ [])
+
+pub cut_lines : (r : Open) (opened before lines : List Observation) → IsFresh r → opened ≡ opened_lines r.shown → IsCut r opened before → lines ≡ before ++ says.Fault 0 ∷ [] → (lines ≡ mounted ++ says.Fault 0 ∷ []) ⊎ (lines ≡ boot_lines ++ says.Fault 0 ∷ [])
+cut_lines r opened before lines f is cut all = ⊎_elim
+    (λ (at_first : before ≡ opened). inl (all ∙ ap (λ ls. ls ++ says.Fault 0 ∷ []) (at_first ∙ (is ∙ ap opened_lines f.shown))))
+    (λ (behind_all : before ≡ (opened ++ told_by r first_start) ++ says.Done ∷ []). inr (all ∙ ap (λ ls. ls ++ says.Fault 0 ∷ []) (started_lines r opened before f is behind_all)))
+    cut
+
+-- it failed as the epoch was started
+pub boots_unstarted : (r : Open) (log : Log) (now : Areas → Type 0) (lines : List Observation) → log ≡ new_log 0 → HoldsSome r first_start log now → (lines ≡ mounted ++ says.Fault 0 ∷ []) ⊎ (lines ≡ boot_lines ++ says.Fault 0 ∷ []) → Boots None now lines
+boots_unstarted r log now lines new holds cut = ⊎_elim
+    (λ (at_first : lines ≡ mounted ++ says.Fault 0 ∷ []). subst (Boots None now) (sym at_first) (
+      boot_start_faults.0,
+      record {
+        entries = [];
+        is_shut = record { acknowledged = []; txns = []; was_active = false; shown = 0; is = boot_start_faults.1 };
+        sound = sound_start r log now new holds;
+      },
+    ))
+    (λ (behind_all : lines ≡ boot_lines ++ says.Fault 0 ∷ []). subst (Boots None now) (sym behind_all) (
+      boot_barrier_faults.0,
+      record {
+        entries = [];
+        is_shut = record { acknowledged = []; txns = []; was_active = true; shown = 0; is = boot_barrier_faults.1 };
+        sound = sound_start r log now new holds;
+      },
+    ))
+    cut
+
+-- and tells one fault
+pub one_fault : (lines : List Observation) → (lines ≡ mounted ++ says.Fault 0 ∷ []) ⊎ (lines ≡ boot_lines ++ says.Fault 0 ∷ []) → faults_in 0 lines ≡ 1
+one_fault lines cut = ⊎_elim (λ (at_first : lines ≡ mounted ++ says.Fault 0 ∷ []). ap (faults_in 0) at_first) (λ (behind_all : lines ≡ boot_lines ++ says.Fault 0 ∷ []). ap (faults_in 0) behind_all) cut
+
+-- ---- a world that boots
+
+-- and no fault of another replica
+pub fault_of_zero : (lines : List Observation) → (lines ≡ mounted ++ says.Fault 0 ∷ []) ⊎ (lines ≡ boot_lines ++ says.Fault 0 ∷ []) → TellsZero lines
+fault_of_zero lines (inl is) q = ap (faults_in (suc q)) is ∙ fault_first q
+fault_of_zero lines (inr is) q = ap (faults_in (suc q)) is ∙ fault_first q
+
+pub boot_does : (k new : Kept) (images now : Areas → Type 0) (o : Option Open) (lines : List Observation) → k.booted ≡ false → 1 ≤ new.last → new.booted ≡ true → new.replica ≡ o → Boots o now lines → Serves k new images now (Boot 0 (0 ∷ [])) (Ok lines)
+boot_does k new images now o lines fresh some booted is boots = λ m s.
+    let n = new_of k images m fresh s in
+    subst (λ x. IsWhole x (Boot 0 (0 ∷ [])) lines × StandsFor new now (moved x (Boot 0 (0 ∷ [])) lines) × (⊥ → ⊥) × StillHolds x now) (sym n.is)
+    (boots.0, as_replica new now (moved empty_machine (Boot 0 (0 ∷ [])) lines) booted (subst (λ w. AsReplica w new.last now (moved empty_machine (Boot 0 (0 ∷ [])) lines)) (sym is) (replica_later o 1 new.last now (moved empty_machine (Boot 0 (0 ∷ [])) lines) some boots.1)), λ u. u, λ b. absurd (false≢true b))

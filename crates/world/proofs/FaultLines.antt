@@ -1,0 +1,181 @@
+-- A fault of the disk: in the step of a call, before its answer, and behind the whole lines of an event.
+use Rattle.std.proofs.Common.{◌≡◌, ◌∙◌, ℕ, ◌≤◌, List, [], ◌∷◌, ◌++◌, drop, length, Bool, true, false, cond, not, ◌&&◌, ◌==◌, Option, Some, None, MatchOption, refl, sym, ap, subst, arith, inl, inr}
+use Rattle.std.specs.Prelude.{is_some, is_none}
+use Rattle.std.specs.Option.{option_map_or}
+use Rattle.std.specs.List.{list_any}
+use Rattle.std.specs.Map.{lookup}
+use Rattle.std.proofs.lemmas.Bool.{or_right, cond-false, le-leb}
+use Rattle.rc_base.specs.declared.ids.TxnId.{TxnId}
+use Rattle.rc_base.specs.Ids.{is_txn}
+use Rattle.script_text.specs.declared.event.Event.{Event}
+use Rattle.script_text.specs.declared.event.Event.TheVariants.{Boot, Client, Arm, Crash, Reboot, Inspect}
+use Rattle.script_text.specs.declared.event.Call.{Call}
+use Rattle.script_text.specs.declared.event.Call.TheVariants.{Begin, Make, Get, Set, Commit}
+use Rattle.order_machine.specs.declared.observation.Observation.{Observation}
+use Rattle.order_machine.specs.declared.observation.Observation.TheVariants as says
+use Rattle.order_machine.specs.Order.{Entry}
+use Rattle.order_machine.specs.Machine.{Machine, Txn, replica, closed, ended_at, never_opened, is_live, put_role}
+use Rattle.order_machine.specs.Answers.{answer}
+use Rattle.order_machine.specs.Rows.{Position, HoldsBehind, IsComplete, May, refusal, opened, at_start, asking, after, showing, logs, event_primary, is_boot, has_answer, with_first_role, new_role, first_epoch}
+use Rattle.order_machine.specs.Legal.{Lines, behind, IsServed, IsWhole, moved}
+use Rattle.order_machine.proofs.Lists.{at_written}
+use Rattle.world.specs.Standing.{serving, shut, standing}
+use Rattle.world.proofs.Served.{served_from}
+use Rattle.world.proofs.WithoutRole.{holds_without_role}
+
+-- ---- in the step of a call
+
+-- as a call is asked at most the transactions change
+asking_stands : (entries : List Entry) (acknowledged : List TxnId) (shown begins : ℕ) (txns : List (TxnId × Txn)) (was_active : Bool) (call : Call) →
+    (others : List (TxnId × Txn)) × (asking (standing entries acknowledged (serving shown begins) txns was_active) 0 call ≡ standing entries acknowledged (serving shown begins) others was_active)
+asking_stands entries acknowledged shown begins txns was_active Begin = (txns, refl)
+asking_stands entries acknowledged shown begins txns was_active (Make t name kind) = (txns, refl)
+asking_stands entries acknowledged shown begins txns was_active (Get t name key) = (txns, refl)
+asking_stands entries acknowledged shown begins txns was_active (Set t name key value) = (txns, refl)
+asking_stands entries acknowledged shown begins txns was_active (Commit t) = by_live (is_live (with_txns txns) 0 t) (lookup (is_txn t) txns)
+  where
+    with_txns : List (TxnId × Txn) → Machine
+    with_txns others = standing entries acknowledged (serving shown begins) others was_active
+
+    by_live : (live : Bool) (o : Option Txn) → (others : List (TxnId × Txn)) × (cond live (option_map_or (λ x. with_txns ((t, record x { live = false; asked = true }) ∷ txns)) o (with_txns txns)) (with_txns txns) ≡ with_txns others)
+    by_live false o = (txns, refl)
+    by_live true None = (txns, refl)
+    by_live true (Some x) = ((t, record x { live = false; asked = true }) ∷ txns, refl)
+
+-- a fault stands in place of the answer of a call that logs
+pub call_faults : (entries : List Entry) (acknowledged : List TxnId) (shown begins : ℕ) (txns : List (TxnId × Txn)) (was_active : Bool) (call : Call) → logs (answer (standing entries acknowledged (serving shown begins) txns was_active) 0 call) ≡ true →
+    IsWhole (standing entries acknowledged (serving shown begins) txns was_active) (Client 0 call) (says.Fault 0 ∷ [])
+    × ((others : List (TxnId × Txn)) × (moved (standing entries acknowledged (serving shown begins) txns was_active) (Client 0 call) (says.Fault 0 ∷ []) ≡ standing entries acknowledged (shut shown) others was_active))
+call_faults entries acknowledged shown begins txns was_active call logged =
+    let m : Machine = standing entries acknowledged (serving shown begins) txns was_active in
+    let asked = asking_stands entries acknowledged shown begins txns was_active call in
+    let n : Machine = standing entries acknowledged (serving shown begins) asked.0 was_active in
+    let p : Position = at_start n (Client 0 call) (answer m 0 call) [] in
+    served_from m (Client 0 call) (says.Fault 0 ∷ []) p (λ at. (others : List (TxnId × Txn)) × (at ≡ standing entries acknowledged (shut shown) others was_active)) refl (ap (λ at. at_start at (Client 0 call) (answer m 0 call) []) asked.1)
+    (record {
+      may = (record { named = refl; in_rank = refl; next = refl; goes_on = refl; row = inl (refl, refl, logged, refl) }, tt);
+      complete = record { opened = refl; grown = refl; mounted = refl; told = refl; answered = refl };
+      holds = holds_without_role entries acknowledged (shut shown) (ended_at 0 asked.0) was_active refl;
+    })
+    (ended_at 0 asked.0, refl)
+
+-- ---- behind the lines of an event
+
+behind_more : (p : Position) (lines more : List Observation) → behind p (lines ++ more) ≡ behind (behind p lines) more
+behind_more p [] more = refl
+behind_more p (o ∷ lines) more = behind_more (after p o) lines more
+
+Lines_more : (p : Position) (lines more : List Observation) → Lines p lines → Lines (behind p lines) more → Lines p (lines ++ more)
+Lines_more p [] more h then = then
+Lines_more p (o ∷ lines) more h then = (h.0, Lines_more (after p o) lines more h.1 then)
+
+-- a line changes neither the event nor the bound on ranks
+pub record IsOf (event : Event) (p : Position) : Type 0 where
+  pub same : p.event ≡ event
+  pub rank : p.rank ≤ 9
+
+either : {A : Type 0} (P : A → Type 0) (b : Bool) (x y : A) → P x → P y → P (cond b x y)
+either P true x y p q = p
+either P false x y p q = q
+
+of_after : (event : Event) (p : Position) (o : Observation) → IsOf event p → IsOf event (after p o)
+of_after event p (says.Up r) h = record { same = h.same; rank = omega arith }
+of_after event p (says.Order t ops) h = record { same = h.same; rank = omega arith }
+of_after event p (says.View r n) h = record {
+  same = either (λ q. q.event ≡ event) (is_some p.opening) (record p { machine = with_first_role (showing p.machine r n) p.event p.mounts; opening = None }) (record p { machine = showing p.machine r n; growing = false; rose = r ∷ p.rose }) h.same h.same;
+  rank = either (λ n. n ≤ 9) (is_some p.opening) 0 3 (omega arith) (omega arith);
+}
+of_after event p (says.Active r) h = record { same = h.same; rank = omega arith }
+of_after event p (says.Committed t) h = record { same = h.same; rank = omega arith }
+of_after event p (says.Fault r) h = record { same = h.same; rank = either (λ n. n ≤ 9) (length p.mounts == 0) 9 0 (omega arith) (omega arith) }
+of_after event p (says.State r n) h = record { same = h.same; rank = omega arith }
+of_after event p (says.Rows words) h = record { same = h.same; rank = omega arith }
+of_after event p (says.Refused part) h = record { same = h.same; rank = omega arith }
+of_after event p says.IgnoredUp h = record { same = h.same; rank = omega arith }
+of_after event p (says.Txn t) h = record { same = h.same; rank = omega arith }
+of_after event p says.Done h = record { same = h.same; rank = omega arith }
+of_after event p (says.Down q) h = record { same = h.same; rank = omega arith }
+of_after event p (says.NotActive q) h = record { same = h.same; rank = omega arith }
+of_after event p (says.Ended t) h = record { same = h.same; rank = omega arith }
+of_after event p says.True h = record { same = h.same; rank = omega arith }
+of_after event p says.False h = record { same = h.same; rank = omega arith }
+of_after event p (says.Value value) h = record { same = h.same; rank = omega arith }
+of_after event p says.Missing h = record { same = h.same; rank = omega arith }
+of_after event p says.Absent h = record { same = h.same; rank = omega arith }
+of_after event p says.WrongKind h = record { same = h.same; rank = omega arith }
+
+of_behind : (event : Event) (p : Position) (lines : List Observation) → IsOf event p → IsOf event (behind p lines)
+of_behind event p [] h = h
+of_behind event p (o ∷ lines) h = of_behind event (after p o) lines (of_after event p o h)
+
+of_opened : (m : Machine) (event : Event) → IsOf event (opened m event)
+of_opened m (Boot p members) = record { same = refl; rank = omega arith }
+of_opened m (Client r call) = record { same = refl; rank = omega arith }
+of_opened m (Arm r calls) = record { same = refl; rank = omega arith }
+of_opened m (Crash r pick) = record { same = refl; rank = omega arith }
+of_opened m (Reboot r) = record { same = refl; rank = omega arith }
+of_opened m (Inspect r) = record { same = refl; rank = omega arith }
+
+-- the event has its answer
+answered_has : (p : Position) (event : Event) → p.answered ≡ true → has_answer p event ≡ true
+answered_has p (Boot primary members) e = rw e refl
+answered_has p (Client r call) e = rw e refl
+answered_has p (Arm r calls) e = rw e refl
+answered_has p (Crash r pick) e = rw e refl
+answered_has p (Reboot r) e = refl
+answered_has p (Inspect r) e = rw e refl
+
+-- a closed primary has no first role
+no_first_role : (m : Machine) (event : Event) (mounts : List ℕ) → event_primary event ≡ 0 → (replica m 0).up ≡ false → with_first_role m event mounts ≡ m
+no_first_role m (Boot p members) [] is down =
+    let there : (replica m p).up ≡ false = subst (λ r. (replica m r).up ≡ false) (sym is) down in
+    cond-false (replica m p).up (put_role m p (Some (new_role first_epoch))) m there
+no_first_role m (Boot p members) (r ∷ rs) is down = refl
+no_first_role m (Client r call) mounts is down = refl
+no_first_role m (Arm r calls) mounts is down = refl
+no_first_role m (Crash r pick) mounts is down = refl
+no_first_role m (Reboot r) mounts is down = refl
+no_first_role m (Inspect r) mounts is down = refl
+
+closed_down : (m : Machine) → (replica (closed m 0) 0).up ≡ false
+closed_down m = at_written (λ r. r.up ≡ false) m.replicas 0 (record (replica m 0) { up = false; role = None }) never_opened refl refl
+
+-- the machine behind the fault
+fault_closes : (event : Event) (p : Position) → IsOf event p → event_primary event ≡ 0 → (after p (says.Fault 0)).machine ≡ closed p.machine 0
+fault_closes event p h is = no_first_role (closed p.machine 0) p.event (drop 1 p.mounts) (ap event_primary h.same ∙ is) (closed_down p.machine)
+
+-- it may come behind all lines of an event with its answer, in which the replica became active or showed more
+fault_may : (event : Event) (p : Position) → IsOf event p → IsComplete p → HoldsBehind p.machine → list_any (λ q. q == 0) p.rose ≡ true → p.answered ≡ true → (replica p.machine 0).up ≡ true → p.faulted ≡ [] → May p (says.Fault 0)
+fault_may event p h complete holds rose answered up whole = record {
+  named = refl;
+  in_rank = le-leb p.rank 9 h.rank;
+  next = ap (λ o. is_none o && not p.growing) complete.opened ∙ ap (λ g. not g) complete.grown;
+  goes_on = or_right (is_boot p.event) (length p.faulted == 0) (ap (λ rs. length rs == 0) whole);
+  row = inr (record { rose = rose; answered = answered; nothing_due = λ t pending. holds.not_shown 0 t pending; is_up = up });
+}
+
+pub fault_behind : (m : Machine) (event : Event) (lines : List Observation) → event_primary event ≡ 0 → refusal m event ≡ None → IsWhole m event lines →
+    list_any (λ q. q == 0) (behind (opened m event) lines).rose ≡ true → (behind (opened m event) lines).answered ≡ true → (replica (behind (opened m event) lines).machine 0).up ≡ true → (behind (opened m event) lines).faulted ≡ [] →
+    HoldsBehind (closed (behind (opened m event) lines).machine 0) →
+    IsWhole m event (lines ++ says.Fault 0 ∷ []) × (moved m event (lines ++ says.Fault 0 ∷ []) ≡ closed (moved m event lines) 0)
+fault_behind m event lines at_zero none whole rose answered up unfaulted holds =
+    let p : Position = behind (opened m event) lines in
+    let kept : IsOf event p = of_behind event (opened m event) lines (of_opened m event) in
+    let served : IsServed (opened m event) lines = subst (λ o. MatchOption o (IsServed (opened m event) lines) (λ refused. lines ≡ refused ∷ [])) none whole in
+    let complete = served.complete in
+    let closes : (after p (says.Fault 0)).machine ≡ closed p.machine 0 = fault_closes event p kept at_zero in
+    let then : behind (opened m event) (lines ++ says.Fault 0 ∷ []) ≡ after p (says.Fault 0) = behind_more (opened m event) lines (says.Fault 0 ∷ []) in
+    let moves : moved m event lines ≡ p.machine = rw none refl in
+    served_from m event (lines ++ says.Fault 0 ∷ []) (opened m event) (λ at. at ≡ closed (moved m event lines) 0) none refl
+    (record {
+      may = Lines_more (opened m event) lines (says.Fault 0 ∷ []) served.may (fault_may event p kept complete served.holds rose answered up unfaulted, tt);
+      complete = subst IsComplete (sym then) (record {
+        opened = complete.opened;
+        grown = complete.grown;
+        mounted = ap (drop 1) complete.mounted;
+        told = complete.told;
+        answered = answered_has (after p (says.Fault 0)) p.event answered;
+      });
+      holds = subst (λ q. HoldsBehind q.machine) (sym then) (subst HoldsBehind (sym closes) holds);
+    })
+    (ap (λ q. q.machine) then ∙ (closes ∙ ap (λ at. closed at 0) (sym moves)))

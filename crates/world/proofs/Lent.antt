@@ -1,0 +1,61 @@
+-- An event that is lent the first disk of a fleet.
+use Rattle.std.proofs.Common.{◌≡◌, ◌∙◌, sym, subst, ℕ, zero, suc, ◌==◌, true, false, List, [], ◌∷◌, Result, Ok, Err, IfOk, length, get_or, slice_get, slice_set, refl, arith}
+use Rattle.std.proofs.lemmas.Bool.{false≢true}
+use Rattle.disk_model.specs.Disk.{Areas}
+use Rattle.script_text.specs.declared.event.Event.{Event}
+use Rattle.script_text.specs.declared.event.Event.TheVariants.{Boot, Client, Arm, Crash, Reboot, Inspect}
+use Rattle.order_machine.specs.declared.observation.Observation.{Observation}
+use Rattle.order_machine.specs.Machine.{Machine}
+use Rattle.order_machine.specs.Rows.{is_actor}
+use Rattle.world.specs.declared.error.WorldError.{WorldError}
+use Rattle.world.specs.declared.error.WorldError.TheVariants as errors
+use Rattle.world.specs.Fleet.{images_of, faults_of, fault_lines, RoseBy, TellsZero}
+use Rattle.world.specs.Kept.{Kept}
+use Rattle.world.specs.World.{StandsFor, IsHere, Serves, StillHolds}
+use Rattle.world.proofs.Faultless.{rose_none}
+
+nine_none : ◌≡◌ {A = ℕ} 0 9 → ⊥
+nine_none e = omega (arith, e)
+
+pub serves_lent : {M : Type 0} (images : M → Areas → Type 0) (items : List M) (d d' : M) (old new : Kept) (event : Event) (result : Result (List Observation) WorldError) → length items ≡ 9 → d ≡ get_or items 0 d → Serves old new (images d) (images d') event result → Serves old new (images_of images items 0) (images_of images (slice_set items 0 d') 0) event result
+serves_lent images [] d d' old new event result nine first s = absurd (nine_none nine)
+serves_lent images (x ∷ xs) d d' old new event result nine first s = subst (λ y. Serves old new (images y) (images d') event result) first s
+
+-- whatever the result, the disk holds what was acknowledged before
+still_by : (old new : Kept) (before now : Areas → Type 0) (event : Event) (result : Result (List Observation) WorldError) → Serves old new before now event result → (m : Machine) → StandsFor old before m → StillHolds m now
+still_by old new before now event (Ok lines) s m stands = (s m stands).3
+still_by old new before now event (Err errors.NoMemory) s m stands = s m stands
+still_by old new before now event (Err (errors.Limit which lines)) s m stands = absurd s
+still_by old new before now event (Err (errors.Unbuilt lines)) s m stands = (s.1 m stands).1
+
+pub still_lent : {M : Type 0} (images : M → Areas → Type 0) (items : List M) (d d' : M) (old new : Kept) (event : Event) (result : Result (List Observation) WorldError) → length items ≡ 9 → d ≡ get_or items 0 d → Serves old new (images d) (images d') event result → (m : Machine) → StandsFor old (images_of images items 0) m → StillHolds m (images_of images (slice_set items 0 d') 0)
+still_lent images items d d' old new event result nine first s m stands = still_by old new (images_of images items 0) (images_of images (slice_set items 0 d') 0) event result (serves_lent images items d d' old new event result nine first s) m stands
+
+-- no event is another replica's
+zero_acts : (event : Event) → IsHere event → is_actor event 0 ≡ true
+zero_acts (Boot p members) here = subst (λ ms. is_actor (Boot p ms) 0 ≡ true) (sym here.1) refl
+zero_acts (Client r call) here = subst (λ n. (n == 0) ≡ true) (sym here.0) refl
+zero_acts (Arm r calls) here = subst (λ n. (n == 0) ≡ true) (sym here.0) refl
+zero_acts (Crash r pick) here = subst (λ n. (n == 0) ≡ true) (sym here) refl
+zero_acts (Reboot r) here = subst (λ n. (n == 0) ≡ true) (sym here) refl
+zero_acts (Inspect r) here = subst (λ n. (n == 0) ≡ true) (sym here) refl
+
+pub elsewhere_lent : {M : Type 0} (items : List M) (d' : M) (event : Event) → IsHere event → (r : ℕ) → is_actor event r ≡ false → slice_get (slice_set items 0 d') r ≡ slice_get items r
+elsewhere_lent items d' event here zero other = absurd (false≢true (sym other ∙ zero_acts event here))
+elsewhere_lent [] d' event here (suc r) other = refl
+elsewhere_lent (x ∷ xs) d' event here (suc r) other = refl
+
+-- ---- faults
+
+faults_there : {M : Type 0} (faults : M → ℕ) (items : List M) (d' : M) (r : ℕ) → faults_of faults (slice_set items 0 d') (suc r) ≡ faults_of faults items (suc r)
+faults_there faults [] d' r = refl
+faults_there faults (x ∷ xs) d' r = refl
+
+no_rise : (r : ℕ) (result : Result (List Observation) WorldError) → IfOk result TellsZero → fault_lines (suc r) result ≡ 0
+no_rise r (Ok lines) names = names r
+no_rise r (Err e) names = refl
+
+pub faults_lent : {M : Type 0} (faults : M → ℕ) (items : List M) (d d' : M) (result : Result (List Observation) WorldError) → length items ≡ 9 → d ≡ get_or items 0 d → IfOk result TellsZero → RoseBy (fault_lines 0 result) (faults d) (faults d') → (r : ℕ) → RoseBy (fault_lines r result) (faults_of faults items r) (faults_of faults (slice_set items 0 d') r)
+faults_lent faults [] d d' result nine first names rose r = absurd (nine_none nine)
+faults_lent faults (x ∷ xs) d d' result nine first names rose zero = subst (λ y. RoseBy (fault_lines 0 result) (faults y) (faults d')) first rose
+faults_lent faults (x ∷ xs) d d' result nine first names rose (suc r) = rose_none (faults_of faults xs r) (faults_of faults xs r) (omega arith) (fault_lines (suc r) result) (no_rise r result names)

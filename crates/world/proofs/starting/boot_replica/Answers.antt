@@ -1,0 +1,110 @@
+use Rattle.std.proofs.Common.{◌≡◌, ◌∙◌, ◌++◌, ◌∷◌, [], ℕ, suc, Ok, Err, ap, arith}
+use Rattle.order_machine.specs.declared.observation.Observation.TheVariants as says
+use Rattle.world.specs.Fleet.{faults_in}
+use Rattle.world.proofs.Booting.{over_new, boots_whole, boots_unopened, boots_unstarted, started_lines, cut_lines, one_fault, fault_of_zero, fresh_may_start}
+use Rattle.world.proofs.Faultless.{fault_first}
+use Rattle.world.proofs.starting.boot_replica.Goals as goal
+
+pub returns-in_default-clause-whole : goal.returns-in_default-clause-whole
+returns-in_default-clause-whole g c =
+    let done = c.in_ok-opened.ensures in
+    (boots_unopened (g.M.Disk.images c.args.disk.now) (g.M.Disk.images c.open_replica.new.disk) c.open_replica.new.lines c.requires.empty done.stop (done.faulted (ap Ok c.in_default.is) ∙ ap (λ ls. ls ++ says.Fault 0 ∷ []) c.requires.untold)).0
+
+pub returns-in_default-clause-stands : goal.returns-in_default-clause-stands
+returns-in_default-clause-stands g c =
+    let done = c.in_ok-opened.ensures in
+    (boots_unopened (g.M.Disk.images c.args.disk.now) (g.M.Disk.images c.open_replica.new.disk) c.open_replica.new.lines c.requires.empty done.stop (done.faulted (ap Ok c.in_default.is) ∙ ap (λ ls. ls ++ says.Fault 0 ∷ []) c.requires.untold)).1
+
+pub start-requires-clause-may : goal.start-requires-clause-may
+start-requires-clause-may g c =
+    let disk = c.open_replica.new.disk in
+    let done = c.in_ok-opened.ensures in
+    let n = over_new _ c.in-Some.opened (g.M.Disk.images c.args.disk.now) (g.M.Disk.images disk) (g.M.Disk.seen disk) _ _ c.requires.untold c.in-Some.is c.requires.empty done.stop (g.met.M.CrashDisk.tells disk) (g.met.M.Disk.seen_is_image disk) done.opened done.fresh done.told in
+    fresh_may_start c.in-Some.opened n.fresh
+
+pub start-requires-clause-room : goal.start-requires-clause-room
+start-requires-clause-room g c =
+    let disk = c.open_replica.new.disk in
+    let done = c.in_ok-opened.ensures in
+    let n = over_new _ c.in-Some.opened (g.M.Disk.images c.args.disk.now) (g.M.Disk.images disk) (g.M.Disk.seen disk) _ _ c.requires.untold c.in-Some.is c.requires.empty done.stop (g.met.M.CrashDisk.tells disk) (g.met.M.Disk.seen_is_image disk) done.opened done.fresh done.told in
+    omega (arith, n.fresh.last)
+
+pub returns-in-Ok-clause-whole : goal.returns-in-Ok-clause-whole
+returns-in-Ok-clause-whole g c =
+    let disk = c.open_replica.new.disk in
+    let done = c.in_ok-opened.ensures in
+    let n = over_new _ c.in-Some.opened (g.M.Disk.images c.args.disk.now) (g.M.Disk.images disk) (g.M.Disk.seen disk) _ _ c.requires.untold c.in-Some.is c.requires.empty done.stop (g.met.M.CrashDisk.tells disk) (g.met.M.Disk.seen_is_image disk) done.opened done.fresh done.told in
+    let e = c.in-Ok.ensures in
+    (boots_whole c.in-Some.opened c.start.new.opened n.log (g.M.Disk.images c.start.new.disk) c.open_replica.new.lines c.start.new.lines n.fresh n.is_new e.kept (e.stands n.log n.is_open) n.told e.told).0
+
+pub returns-in-Ok-clause-stands : goal.returns-in-Ok-clause-stands
+returns-in-Ok-clause-stands g c =
+    let disk = c.open_replica.new.disk in
+    let done = c.in_ok-opened.ensures in
+    let n = over_new _ c.in-Some.opened (g.M.Disk.images c.args.disk.now) (g.M.Disk.images disk) (g.M.Disk.seen disk) _ _ c.requires.untold c.in-Some.is c.requires.empty done.stop (g.met.M.CrashDisk.tells disk) (g.met.M.Disk.seen_is_image disk) done.opened done.fresh done.told in
+    let e = c.in-Ok.ensures in
+    (boots_whole c.in-Some.opened c.start.new.opened n.log (g.M.Disk.images c.start.new.disk) c.open_replica.new.lines c.start.new.lines n.fresh n.is_new e.kept (e.stands n.log n.is_open) n.told e.told).1
+
+pub returns-in-Ok-clause-faults : goal.returns-in-Ok-clause-faults
+returns-in-Ok-clause-faults g c =
+    let disk = c.open_replica.new.disk in
+    let done = c.in_ok-opened.ensures in
+    let n = over_new _ c.in-Some.opened (g.M.Disk.images c.args.disk.now) (g.M.Disk.images disk) (g.M.Disk.seen disk) _ _ c.requires.untold c.in-Some.is c.requires.empty done.stop (g.met.M.CrashDisk.tells disk) (g.met.M.Disk.seen_is_image disk) done.opened done.fresh done.told in
+    let e = c.in-Ok.ensures in
+    let none : faults_in 0 c.start.new.lines ≡ 0 = ap (faults_in 0) (started_lines c.in-Some.opened c.open_replica.new.lines c.start.new.lines n.fresh n.told e.told) in
+    let first = done.cause.later in
+    let second = e.cause.later in
+    record { later = omega arith; by = omega arith }
+
+pub returns-in-Err-Disk-clause-whole : goal.returns-in-Err-Disk-clause-whole
+returns-in-Err-Disk-clause-whole g c =
+    let disk = c.open_replica.new.disk in
+    let done = c.in_ok-opened.ensures in
+    let n = over_new _ c.in-Some.opened (g.M.Disk.images c.args.disk.now) (g.M.Disk.images disk) (g.M.Disk.seen disk) _ _ c.requires.untold c.in-Some.is c.requires.empty done.stop (g.met.M.CrashDisk.tells disk) (g.met.M.Disk.seen_is_image disk) done.opened done.fresh done.told in
+    let e = c.in-Err-Disk.ensures in
+    let lines = cut_lines c.in-Some.opened c.open_replica.new.lines c.start.new.lines c.push.new.self n.fresh n.told (e.cut (ap Err c.in-Err-Disk.field-0-is)) (c.in_ok-push-in-Err-Disk.ensures.ok ∙ ap (λ (q : ℕ). c.start.new.lines ++ says.Fault q ∷ []) c.requires.first) in
+    (boots_unstarted c.in-Some.opened n.log (g.M.Disk.images c.start.new.disk) c.push.new.self n.is_new (e.stop n.log n.is_open) lines).0
+
+pub returns-in-Err-Disk-clause-stands : goal.returns-in-Err-Disk-clause-stands
+returns-in-Err-Disk-clause-stands g c =
+    let disk = c.open_replica.new.disk in
+    let done = c.in_ok-opened.ensures in
+    let n = over_new _ c.in-Some.opened (g.M.Disk.images c.args.disk.now) (g.M.Disk.images disk) (g.M.Disk.seen disk) _ _ c.requires.untold c.in-Some.is c.requires.empty done.stop (g.met.M.CrashDisk.tells disk) (g.met.M.Disk.seen_is_image disk) done.opened done.fresh done.told in
+    let e = c.in-Err-Disk.ensures in
+    let lines = cut_lines c.in-Some.opened c.open_replica.new.lines c.start.new.lines c.push.new.self n.fresh n.told (e.cut (ap Err c.in-Err-Disk.field-0-is)) (c.in_ok-push-in-Err-Disk.ensures.ok ∙ ap (λ (q : ℕ). c.start.new.lines ++ says.Fault q ∷ []) c.requires.first) in
+    (boots_unstarted c.in-Some.opened n.log (g.M.Disk.images c.start.new.disk) c.push.new.self n.is_new (e.stop n.log n.is_open) lines).1
+
+pub returns-in-Err-Disk-clause-faults : goal.returns-in-Err-Disk-clause-faults
+returns-in-Err-Disk-clause-faults g c =
+    let disk = c.open_replica.new.disk in
+    let done = c.in_ok-opened.ensures in
+    let n = over_new _ c.in-Some.opened (g.M.Disk.images c.args.disk.now) (g.M.Disk.images disk) (g.M.Disk.seen disk) _ _ c.requires.untold c.in-Some.is c.requires.empty done.stop (g.met.M.CrashDisk.tells disk) (g.met.M.Disk.seen_is_image disk) done.opened done.fresh done.told in
+    let e = c.in-Err-Disk.ensures in
+    let lines = cut_lines c.in-Some.opened c.open_replica.new.lines c.start.new.lines c.push.new.self n.fresh n.told (e.cut (ap Err c.in-Err-Disk.field-0-is)) (c.in_ok-push-in-Err-Disk.ensures.ok ∙ ap (λ (q : ℕ). c.start.new.lines ++ says.Fault q ∷ []) c.requires.first) in
+    let one = one_fault c.push.new.self lines in
+    let first = done.cause.later in
+    let second = e.cause.later in
+    let rose = e.cause.rose (ap Err c.in-Err-Disk.field-0-is) in
+    record { later = omega arith; by = omega arith }
+
+pub returns-in_default-clause-others : goal.returns-in_default-clause-others
+returns-in_default-clause-others g c =
+    let done = c.in_ok-opened.ensures in
+    λ q. ap (faults_in (suc q)) (done.faulted (ap Ok c.in_default.is) ∙ ap (λ ls. ls ++ says.Fault 0 ∷ []) c.requires.untold) ∙ fault_first q
+
+pub returns-in-Ok-clause-others : goal.returns-in-Ok-clause-others
+returns-in-Ok-clause-others g c =
+    let disk = c.open_replica.new.disk in
+    let done = c.in_ok-opened.ensures in
+    let n = over_new _ c.in-Some.opened (g.M.Disk.images c.args.disk.now) (g.M.Disk.images disk) (g.M.Disk.seen disk) _ _ c.requires.untold c.in-Some.is c.requires.empty done.stop (g.met.M.CrashDisk.tells disk) (g.met.M.Disk.seen_is_image disk) done.opened done.fresh done.told in
+    let e = c.in-Ok.ensures in
+    λ q. ap (faults_in (suc q)) (started_lines c.in-Some.opened c.open_replica.new.lines c.start.new.lines n.fresh n.told e.told)
+
+pub returns-in-Err-Disk-clause-others : goal.returns-in-Err-Disk-clause-others
+returns-in-Err-Disk-clause-others g c =
+    let disk = c.open_replica.new.disk in
+    let done = c.in_ok-opened.ensures in
+    let n = over_new _ c.in-Some.opened (g.M.Disk.images c.args.disk.now) (g.M.Disk.images disk) (g.M.Disk.seen disk) _ _ c.requires.untold c.in-Some.is c.requires.empty done.stop (g.met.M.CrashDisk.tells disk) (g.met.M.Disk.seen_is_image disk) done.opened done.fresh done.told in
+    let e = c.in-Err-Disk.ensures in
+    let lines = cut_lines c.in-Some.opened c.open_replica.new.lines c.start.new.lines c.push.new.self n.fresh n.told (e.cut (ap Err c.in-Err-Disk.field-0-is)) (c.in_ok-push-in-Err-Disk.ensures.ok ∙ ap (λ (q : ℕ). c.start.new.lines ++ says.Fault q ∷ []) c.requires.first) in
+    fault_of_zero c.push.new.self lines

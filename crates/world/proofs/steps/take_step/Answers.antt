@@ -1,0 +1,16 @@
+use Rattle.std.proofs.Common.{◌∙◌, ap}
+use Rattle.replica.specs.Open.{Open}
+use Rattle.world.proofs.Stepping.{stepped_id}
+use Rattle.world.proofs.steps.take_step.Goals as goal
+
+pub returns-clause-stands : goal.returns-clause-stands
+returns-clause-stands g c = λ log o.
+    let e = c.in_ok-outcome.ensures in
+    let agrees = e.agrees log o.stands o.agrees in
+    record {
+      first = ap (λ (r : Open). r.id) e.kept ∙ (stepped_id c.args.opened.now c.args.event.now ∙ o.first);
+      stands = agrees.0;
+      agrees = agrees.1;
+      opened = e.opened;
+      not_closed = e.not_closed;
+    }

@@ -1,0 +1,17 @@
+use Rattle.std.proofs.Common.{sym, ◌∙◌}
+use Rattle.std.proofs.lemmas.Result.{err_from_is_err_and}
+use Rattle.replica.specs.declared.error.StepError.TheVariants as errors
+use Rattle.world.specs.Steps.{log_once}
+use Rattle.world.proofs.Stepping.{cut_second, counted_second, handed_on}
+use Rattle.world.proofs.steps.take_steps.Goals as goal
+
+pub returns-in_err-take_step-2-clause-cut : goal.returns-in_err-take_step-2-clause-cut
+returns-in_err-take_step-2-clause-cut g c = λ told log o.
+    let once = c.in_ok-take_step.ensures in
+    let second = c.in_err-take_step-2.ensures in
+    let failed = handed_on _ _ errors.Disk (err_from_is_err_and _ c.from_residual-in_err-take_step-2.ensures.1) told in
+    cut_second c.args.opened.now c.take_step.new.opened c.args.event.now log c.args.lines.now c.take_step.new.lines _ _ (sym once.due ∙ c.if-branch.true) once.kept once.told (second.untold failed) (second.stop (log_once c.args.opened.now c.args.event.now log) (once.stands log o))
+
+pub returns-in_err-take_step-2-clause-cause : goal.returns-in_err-take_step-2-clause-cause
+returns-in_err-take_step-2-clause-cause g c =
+    counted_second _ _ _ c.in_ok-take_step.ensures.cause.later c.in_err-take_step-2.ensures.cause (λ told. handed_on _ _ errors.Disk (err_from_is_err_and _ c.from_residual-in_err-take_step-2.ensures.1) told)

@@ -1,0 +1,25 @@
+use Rattle.std.proofs.Common.{◌∙◌, ap, sym, refl, arith}
+use Rattle.std.proofs.lemmas.Result.{err_from_is_err_and}
+use Rattle.script_text.specs.declared.event.Event.TheVariants.{Crash}
+use Rattle.order_machine.specs.declared.observation.Observation.TheVariants as says
+use Rattle.world.proofs.Answered.{answered_serves, answered_refused, err_serves, new_refuses}
+use Rattle.world.proofs.Reopening.{crash_does}
+use Rattle.world.proofs.Still.{stands_still}
+use Rattle.world.proofs.world.World.crash.Goals as goal
+
+pub returns-then-not-self-clause-serves : goal.returns-then-not-self-clause-serves
+returns-then-not-self-clause-serves g c =
+    let done = c.answered.ensures in
+    let fresh = new_refuses c.args.self.now (g.M.Disk.images c.args.disk.now) (Crash 0 c.args.pick) (ap (λ k. k.booted) (sym c.self.view_is) ∙ c.if-not-self.true) refl in
+    answered_serves _ _ _ _ (says.Refused 9) c.args.number _ done.lines done.stays done.memory (omega arith) (λ m s. answered_refused m (Crash 0 c.args.pick) (says.Refused 9) (fresh m s) (λ u. u))
+
+pub returns-in_err-lines-clause-serves : goal.returns-in_err-lines-clause-serves
+returns-in_err-lines-clause-serves g c =
+    err_serves c.args.self.now c.answered-2.new.self (g.M.Disk.images c.args.disk.now) (g.M.Disk.images c.args.disk.now) (Crash 0 c.args.pick) c.from_residual.result c.in_err-lines.field-0.0 (λ m s. stands_still c.args.self.now (g.M.Disk.images c.args.disk.now) m s) (err_from_is_err_and _ c.from_residual.ensures.1) c.in_err-lines.ensures.memory
+
+pub returns-clause-serves : goal.returns-clause-serves
+returns-clause-serves g c =
+    let done = c.in_ok-lines.ensures in
+    let booted = ap (λ k. k.booted) (sym c.self.view_is) ∙ c.if-not-self.false in
+    let later = c.self-2.view_is ∙ done.stays in
+    crash_does c.args.self.now _ (g.M.Disk.images c.args.disk.now) (g.M.Disk.images c.crash.new.self) (g.M.Disk.seen c.crash.new.self) c.args.pick c.in_ok-lines.lines booted (let l = ap (λ k. k.last) later in omega arith) (ap (λ k. k.booted) later ∙ booted) refl c.crash.ensures.left c.crash.ensures.only done.lines

@@ -1,0 +1,79 @@
+-- The steps of an open replica in an event, and the lines that they print.
+use Rattle.std.specs.Prelude.{◌≡◌, ◌≢◌, ◌⊎◌, ℕ, nat_lt, Bool, true, false, not, ◌&&◌, List, [], ◌∷◌, ◌++◌, map, Ok, is_none, if◌then◌else◌}
+use Rattle.std.specs.List.{cons_option}
+use Rattle.disk_model.specs.Disk.{Areas, Each}
+use Rattle.txn_table.specs.declared.committed.Committed.{Committed}
+use Rattle.log_store.specs.declared.kept.Kept.{Kept as Log}
+use Rattle.log_store.specs.Durable.{durable, StandForOneOf}
+use Rattle.log_store.specs.Growth.{after}
+use Rattle.script_text.specs.declared.event.Call.{Call}
+use Rattle.script_text.specs.declared.event.Call.TheVariants as calls
+use Rattle.order_machine.specs.declared.observation.Observation.{Observation}
+use Rattle.order_machine.specs.declared.observation.Observation.TheVariants as says
+use Rattle.replica.specs.declared.step.Outcome.{Outcome}
+use Rattle.replica.specs.declared.step.StepEvent.{StepEvent}
+use Rattle.replica.specs.declared.step.StepEvent.TheVariants as steps
+use Rattle.replica.specs.Open.{Open}
+use Rattle.replica.specs.Step.{block, outcome, stepped, is_active}
+
+-- ---- a begin that waits for locks
+
+abbrev pub waits : Open → Call → Bool
+waits r calls.Begin = is_active r.role && not (is_none r.live)
+waits r (calls.Make t name kind) = false
+waits r (calls.Get t name key) = false
+waits r (calls.Set t name key value) = false
+waits r (calls.Commit t) = false
+
+-- ---- lines
+
+abbrev pub order_line : Committed → Observation
+order_line c = says.Order c.txn c.ops
+
+abbrev pub cons_if : Bool → Observation → List Observation
+cons_if true o = o ∷ []
+cons_if false o = []
+
+-- that a replica shows more than it did, and became active
+abbrev pub told_rise : ℕ → ℕ → Bool → ℕ → Bool → List Observation
+told_rise id shown was_active now_shown active = cons_if (nat_lt shown now_shown) (says.View id now_shown) ++ cons_if (active && not was_active) (says.Active id)
+
+-- the lines of an outcome at a replica that showed so many commits, and was active or not
+abbrev pub told : ℕ → ℕ → Bool → Outcome → List Observation
+told id shown was_active outcome =
+    map order_line outcome.commits
+    ++ cons_if (nat_lt shown outcome.shown) (says.View id outcome.shown)
+    ++ cons_if (outcome.active && not was_active) (says.Active id)
+    ++ map says.Committed outcome.acknowledged
+    ++ cons_option outcome.answer []
+
+abbrev pub told_by : Open → StepEvent → List Observation
+told_by r event = told r.id r.shown (is_active r.role) (outcome r event)
+
+-- ---- a step, and the Barrier behind it where one is due
+
+abbrev pub is_due : Open → StepEvent → Bool
+is_due r event = (outcome r event).barrier_due
+
+abbrev pub finished : Open → StepEvent → Open
+finished r event = if is_due r event then stepped (stepped r event) steps.Barrier else stepped r event
+
+-- the log behind the step, and behind both
+abbrev pub log_once : Open → StepEvent → Log → Log
+log_once r event log = after log (block r event)
+
+abbrev pub log_twice : Open → StepEvent → Log → Log
+log_twice r event log = after (log_once r event log) (block (stepped r event) steps.Barrier)
+
+abbrev pub log_behind : Open → StepEvent → Log → Log
+log_behind r event log = if is_due r event then log_twice r event log else log_once r event log
+
+-- The disk failed in the first step, before any line of it, or in the second, behind the lines of the first.
+abbrev pub IsCutOff : Open → StepEvent → Log → List Observation → List Observation → (Areas → Type 0) → Type 0
+IsCutOff r event log old new images =
+    ((new ≡ old) × (block r event ≢ []) × StandForOneOf log (log_once r event log) images)
+    ⊎ ((is_due r event ≡ true) × (new ≡ old ++ told_by r event) × StandForOneOf (log_once r event log) (log_twice r event log) images)
+
+-- each image holds the log, or that behind the first step, or behind both
+abbrev pub HoldsSome : Open → StepEvent → Log → (Areas → Type 0) → Type 0
+HoldsSome r event log images = Each images (λ c. (durable c ≡ Ok log) ⊎ ((durable c ≡ Ok (log_once r event log)) ⊎ ((is_due r event ≡ true) × (durable c ≡ Ok (log_twice r event log)))))

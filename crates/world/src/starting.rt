@@ -1,0 +1,85 @@
+ghost use Rattle.std.specs.Prelude.{◌≡◌, ◌⊎◌, ◌+◌, ◌<◌, ◌≤◌, ◌^◌, ◌++◌, ◌∷◌, [], IfOk, OnOk, IsErrOf, None, true};
+ghost use Rattle.rc_base.specs.Counts.{Counted};
+ghost use Rattle.log_store.specs.declared.kept.Kept.{Kept as Log};
+ghost use Rattle.log_store.specs.Durable.{StandFor};
+ghost use Rattle.log_store.specs.Fold.{no_log};
+ghost use Rattle.order_machine.specs.Legal.{IsWhole, moved};
+ghost use Rattle.order_machine.specs.Machine.{empty_machine};
+ghost use Rattle.order_machine.specs.declared.observation.Observation.TheVariants as says;
+ghost use Rattle.replica.specs.declared.error.StepError.TheVariants as errors;
+ghost use Rattle.replica.specs.declared.step.StepEvent.TheVariants as steps;
+ghost use Rattle.replica.specs.Step.{MayStep};
+ghost use Rattle.order_machine.specs.Rows.{first_epoch};
+ghost use Rattle.script_text.specs.declared.event.Event.TheVariants.{Boot};
+ghost use Rattle.world.specs.Fleet.{faults_in, RoseBy, TellsZero};
+ghost use Rattle.world.specs.Steps.{finished, told_by, log_behind, log_once, log_twice, HoldsSome};
+ghost use Rattle.world.specs.World.{AsReplica, IsOpen};
+
+use crate::opening::open_replica;
+use crate::steps::take_step;
+use disk_model::CrashDisk;
+use order_machine::{Observation, Observations};
+use rc_base::{Epoch, NoMemory, ReplicaId};
+use replica::{Replica, StepError, StepEvent};
+use std::alloc::Global;
+
+// The epoch that a boot starts.
+const FIRST_EPOCH: Epoch = Epoch { loss: 0, number: 1 };
+
+// Boots replica 0 over a disk without a log: opens it and starts the first epoch, and tells so. These are all lines of the
+// boot. None where the disk failed, which is told then.
+pub(crate) fn boot_replica<M: CrashDisk>(
+    alloc: Global,
+    replica: ReplicaId,
+    disk: &mut M,
+    lines: &mut Observations,
+) -> Result<Option<Replica>, NoMemory>
+    requires first { replica ≡ 0 }
+    requires empty { StandFor no_log (M.images disk.old) }
+    requires untold { lines.old ≡ [] }
+    ensures whole { OnOk result (IsWhole empty_machine (Boot 0 (0 ∷ [])) lines.new) }
+    ensures stands { IfOk result (λ o. AsReplica o 1 (M.images disk.new) (moved empty_machine (Boot 0 (0 ∷ [])) lines.new)) }
+    ensures others { OnOk result (TellsZero lines.new) }
+    ensures faults { OnOk result (RoseBy (faults_in 0 lines.new) (M.faults disk.old) (M.faults disk.new)) }
+    ensures later { M.faults disk.old ≤ M.faults disk.new }
+    ensures marks { M.marks disk.new ≡ M.marks disk.old }
+{
+    let Some(mut opened) = open_replica(alloc, replica, disk, lines)? else {
+        return Ok(None);
+    };
+    match start(replica, &mut opened, disk, lines) {
+        Ok(()) => Ok(Some(opened)),
+        Err(StepError::Disk) => {
+            lines.push(Observation::Fault(replica))?;
+            Ok(None)
+        }
+        Err(StepError::NoMemory) => Err(NoMemory),
+    }
+}
+
+// The replica starts the first epoch, answers, and logs a Barrier.
+fn start<M: CrashDisk>(
+    replica: ReplicaId,
+    opened: &mut Replica,
+    disk: &mut M,
+    lines: &mut Observations,
+) -> Result<(), StepError>
+    requires first { replica ≡ 0 }
+    requires stands { (log : Log) × IsOpen opened.old log (M.images disk.old) }
+    requires may { MayStep opened.old (steps.Start first_epoch) }
+    requires room { opened.old.last.0 + 4 < 2 ^ 48 }
+    requires counted { opened.old.begins + 1 < 2 ^ 64 }
+    ensures kept { OnOk result (opened.new ≡ record (finished opened.old (steps.Start first_epoch)) { log = opened.new.log }) }
+    ensures stands { OnOk result ((log : Log) → IsOpen opened.old log (M.images disk.old) → IsOpen opened.new (log_behind opened.old (steps.Start first_epoch) log) (M.images disk.new)) }
+    ensures told { OnOk result (lines.new ≡ (lines.old ++ told_by opened.old (steps.Start first_epoch)) ++ says.Done ∷ []) }
+    ensures cut { IsErrOf result errors.Disk → (lines.new ≡ lines.old) ⊎ (lines.new ≡ (lines.old ++ told_by opened.old (steps.Start first_epoch)) ++ says.Done ∷ []) }
+    ensures stop { (log : Log) → IsOpen opened.old log (M.images disk.old) → HoldsSome opened.old (steps.Start first_epoch) log (M.images disk.new) }
+    ensures cause { Counted (M.faults disk.old) (M.faults disk.new) (IsErrOf result errors.Disk) }
+    ensures marks { M.marks disk.new ≡ M.marks disk.old }
+{
+    let event = StepEvent::Start { epoch: FIRST_EPOCH };
+    take_step(replica, opened, disk, &event, lines)?;
+    lines.push(Observation::Done)?;
+    take_step(replica, opened, disk, &StepEvent::Barrier, lines)?;
+    Ok(())
+}
