@@ -2,7 +2,7 @@
 use Rattle.std.proofs.Common.{◌≡◌, ◌∙◌, ℕ, ◌-◌, ◌<◌, ◌≤◌, ◌^◌, List, [], ◌∷◌, length, get_or, take, drop, map, cond, codes, decimal, Result, Err, refl, sym, ap, subst}
 use Rattle.std.specs.Borrow.{Bor}
 use Rattle.script_text.specs.Reading.{texts}
-use Rattle.script_text.specs.Sentence.{txn_text, IsTxn}
+use Rattle.script_text.specs.Sentence.{epoch_text, txn_text, IsTxn}
 use Rattle.order_machine.specs.declared.form.Form.{Form}
 use Rattle.order_machine.specs.declared.form.Form.TheVariants as forms
 use Rattle.order_machine.specs.declared.observation.Observation.{Observation}
@@ -11,7 +11,7 @@ use Rattle.order_machine.specs.declared.word_error.WordError.{WordError}
 use Rattle.order_machine.specs.Lines.{op_text, words_of}
 use Rattle.order_machine.specs.Said.{IsSaid}
 use Rattle.order_machine.specs.ReadBack.{Spells, line_words, IsLine}
-use Rattle.order_machine.specs.WordReading.{Reads, form_word, bare_words, up_words, IsNothing, number_words, IsReplica, IsPart, pair_words, IsPair, txn_words, value_words, IsValue, order_words, IsOrder, row_words, AreRowWords}
+use Rattle.order_machine.specs.WordReading.{Reads, form_word, bare_words, number_words, IsReplica, IsPart, pair_words, IsPair, progress_words, IsProgress, txn_words, value_words, IsValue, order_words, IsOrder, row_words, AreRowWords}
 use Rattle.order_machine.proofs.Reading.{is_word}
 use Rattle.order_machine.proofs.Wrongs.{same_first, same_rest, texts_first, error_behind, wrong_behind}
 
@@ -30,6 +30,7 @@ form_from word =
     (cond (is_word word (codes "down")) forms.Down
     (cond (is_word word (codes "notactive")) forms.NotActive
     (cond (is_word word (codes "ended")) forms.Ended
+    (cond (is_word word (codes "locked")) forms.Locked
     (cond (is_word word (codes "true")) forms.True
     (cond (is_word word (codes "false")) forms.False
     (cond (is_word word (codes "value")) forms.Value
@@ -38,8 +39,9 @@ form_from word =
     (cond (is_word word (codes "wrongkind")) forms.WrongKind
     (cond (is_word word (codes "fault")) forms.Fault
     (cond (is_word word (codes "ignored")) forms.Ignored
+    (cond (is_word word (codes "progress")) forms.Progress
     (cond (is_word word (codes "state")) forms.State
-    forms.Rows)))))))))))))))))))
+    forms.Rows)))))))))))))))))))))
 
 form_from-form_word : (form : Form) → form_from (form_word form) ≡ form
 unfolding form_from is_word
@@ -54,6 +56,7 @@ form_from-form_word forms.Refused = refl
 form_from-form_word forms.Down = refl
 form_from-form_word forms.NotActive = refl
 form_from-form_word forms.Ended = refl
+form_from-form_word forms.Locked = refl
 form_from-form_word forms.True = refl
 form_from-form_word forms.False = refl
 form_from-form_word forms.Value = refl
@@ -62,6 +65,7 @@ form_from-form_word forms.Absent = refl
 form_from-form_word forms.WrongKind = refl
 form_from-form_word forms.Fault = refl
 form_from-form_word forms.Ignored = refl
+form_from-form_word forms.Progress = refl
 form_from-form_word forms.State = refl
 form_from-form_word forms.Rows = refl
 
@@ -82,6 +86,7 @@ form (says.Refused part) = forms.Refused
 form (says.Down r) = forms.Down
 form (says.NotActive r) = forms.NotActive
 form (says.Ended t) = forms.Ended
+form (says.Locked t) = forms.Locked
 form says.True = forms.True
 form says.False = forms.False
 form (says.Value value) = forms.Value
@@ -90,6 +95,8 @@ form says.Absent = forms.Absent
 form says.WrongKind = forms.WrongKind
 form (says.Fault r) = forms.Fault
 form says.IgnoredUp = forms.Ignored
+form (says.IgnoredOldEpoch fence e) = forms.Ignored
+form (says.Progress r e last) = forms.Progress
 form (says.State r n) = forms.State
 form (says.Rows words) = forms.Rows
 
@@ -105,6 +112,7 @@ operands (says.Refused part) = decimal part ∷ []
 operands (says.Down r) = decimal r ∷ []
 operands (says.NotActive r) = decimal r ∷ []
 operands (says.Ended t) = txn_text t ∷ []
+operands (says.Locked t) = txn_text t ∷ []
 operands says.True = []
 operands says.False = []
 operands (says.Value value) = value ∷ []
@@ -113,6 +121,8 @@ operands says.Absent = []
 operands says.WrongKind = []
 operands (says.Fault r) = decimal r ∷ []
 operands says.IgnoredUp = codes "up" ∷ []
+operands (says.IgnoredOldEpoch fence e) = codes "oldepoch" ∷ epoch_text fence ∷ epoch_text e ∷ []
+operands (says.Progress r e last) = decimal r ∷ epoch_text e ∷ decimal last ∷ []
 operands (says.State r n) = decimal r ∷ decimal n ∷ []
 operands (says.Rows words) = words
 
@@ -128,6 +138,7 @@ words_are (says.Refused part) = refl
 words_are (says.Down r) = refl
 words_are (says.NotActive r) = refl
 words_are (says.Ended t) = refl
+words_are (says.Locked t) = refl
 words_are says.True = refl
 words_are says.False = refl
 words_are (says.Value value) = refl
@@ -136,6 +147,8 @@ words_are says.Absent = refl
 words_are says.WrongKind = refl
 words_are (says.Fault r) = refl
 words_are says.IgnoredUp = refl
+words_are (says.IgnoredOldEpoch fence e) = refl
+words_are (says.Progress r e last) = refl
 words_are (says.State r n) = refl
 words_are (says.Rows words) = refl
 
@@ -235,6 +248,13 @@ ended_only _ same is = absurd (cc)
 pub ended_error : (given : Form) → given ≡ forms.Ended → (words : List (List ℕ)) (e : WordError) (result : Result Observation WordError) → result ≡ Err e → Reads txn_words IsTxn words (Err e) → Reads words_of IsSaid (form_word given ∷ words) result
 ended_error = error_in_form txn_words IsTxn forms.Ended says.Ended (λ y is. is) (λ y is. refl) ended_only
 
+locked_only : (o : Observation) → form o ≡ forms.Locked → IsSaid o → Spells txn_words IsTxn (operands o)
+locked_only (says.Locked t) same is = (t, is, refl)
+locked_only _ same is = absurd (cc)
+
+pub locked_error : (given : Form) → given ≡ forms.Locked → (words : List (List ℕ)) (e : WordError) (result : Result Observation WordError) → result ≡ Err e → Reads txn_words IsTxn words (Err e) → Reads words_of IsSaid (form_word given ∷ words) result
+locked_error = error_in_form txn_words IsTxn forms.Locked says.Locked (λ y is. is) (λ y is. refl) locked_only
+
 true_only : (o : Observation) → form o ≡ forms.True → IsSaid o → Spells bare_words (λ x. x ≡ says.True) (operands o)
 true_only says.True same is = (says.True, refl, refl)
 true_only _ same is = absurd (cc)
@@ -284,12 +304,18 @@ fault_only _ same is = absurd (cc)
 pub fault_error : (given : Form) → given ≡ forms.Fault → (words : List (List ℕ)) (e : WordError) (result : Result Observation WordError) → result ≡ Err e → Reads number_words IsReplica words (Err e) → Reads words_of IsSaid (form_word given ∷ words) result
 fault_error = error_in_form number_words IsReplica forms.Fault says.Fault (λ y is. is) (λ y is. refl) fault_only
 
-ignored_up_only : (o : Observation) → form o ≡ forms.Ignored → IsSaid o → Spells up_words IsNothing (operands o)
-ignored_up_only says.IgnoredUp same is = (tt, tt, refl)
-ignored_up_only _ same is = absurd (cc)
+progress_only : (o : Observation) → form o ≡ forms.Progress → IsSaid o → Spells progress_words IsProgress (operands o)
+progress_only (says.Progress r e last) same is = ((r, e, last), is, refl)
+progress_only _ same is = absurd (cc)
 
-pub ignored_up_error : (given : Form) → given ≡ forms.Ignored → (words : List (List ℕ)) (e : WordError) (result : Result Observation WordError) → result ≡ Err e → Reads up_words IsNothing words (Err e) → Reads words_of IsSaid (form_word given ∷ words) result
-ignored_up_error = error_in_form up_words IsNothing forms.Ignored (λ y. says.IgnoredUp) (λ y is. tt) (λ y is. refl) ignored_up_only
+pub progress_error : (given : Form) → given ≡ forms.Progress → (words : List (List ℕ)) (e : WordError) (result : Result Observation WordError) → result ≡ Err e → Reads progress_words IsProgress words (Err e) → Reads words_of IsSaid (form_word given ∷ words) result
+progress_error = error_in_form progress_words IsProgress forms.Progress (λ y. says.Progress y.0 y.1 y.2) (λ y is. is) (λ y is. refl) progress_only
+
+-- each cause stands behind the word of this form
+pub ignored_error : (given : Form) → given ≡ forms.Ignored → (words : List (List ℕ)) (e : WordError) (result : Result Observation WordError) → result ≡ Err e
+    → Reads words_of IsSaid (codes "ignored" ∷ words) (Err e) → Reads words_of IsSaid (form_word given ∷ words) result
+ignored_error given tells words e result is wrong =
+    subst (λ (r : Result Observation WordError). Reads words_of IsSaid (form_word given ∷ words) r) (sym is) (subst (λ f. Reads words_of IsSaid (form_word f ∷ words) (Err e)) (sym tells) wrong)
 
 state_only : (o : Observation) → form o ≡ forms.State → IsSaid o → Spells pair_words IsPair (operands o)
 state_only (says.State r n) same is = ((r, n), is, refl)

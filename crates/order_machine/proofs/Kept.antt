@@ -13,13 +13,14 @@ use Rattle.std.proofs.lemmas.Map.Keys.{IsDistinct-push}
 use Rattle.rc_base.specs.declared.ids.Epoch.{Epoch}
 use Rattle.rc_base.specs.declared.ids.TxnId.{TxnId}
 use Rattle.coll_model.specs.declared.op.Op.{Op}
+use Rattle.key_locks.specs.Grants.{Grant, released}
 use Rattle.rc_base.specs.Ids.{is_epoch, is_txn, epoch_le}
 use Rattle.order_machine.specs.Order.{Entry, Order, empty_order, length_of, first_of, holds}
-use Rattle.order_machine.specs.Machine.{Machine, Replica, Role, Txn, Noted, Appointment, never_opened, empty_machine, replica, put_replica, order_of, role_of, txn_of, put_txn, is_shown, is_acknowledged, ops_of, ended_at, closed}
+use Rattle.order_machine.specs.Machine.{Machine, Replica, Role, Txn, Noted, Appointment, never_opened, empty_machine, replica, put_replica, order_of, role_of, txn_of, put_txn, put_role, grants_of, put_grants, is_shown, is_acknowledged, ops_of, ended_at, without_role, closed}
 use Rattle.order_machine.specs.Answers.{noted, begun, new_txn, one_more_begun}
 use Rattle.order_machine.specs.Laws.{IsAsked, entries_of}
-use Rattle.order_machine.specs.Rows.{ordering, acknowledging, activated, noting_active, showing}
-use Rattle.rc_base.proofs.SameIds.{is_txn-true, is_txn_equivalence}
+use Rattle.order_machine.specs.Rows.{dropping, ordering, acknowledging, activated, noting_active, showing, with_survey}
+use Rattle.rc_base.proofs.SameIds.{is_epoch_same, is_txn-true, is_txn_equivalence}
 use Rattle.order_machine.proofs.Lists.{list_any-take_more, list_any-from_take, list_any-take_added, list_any-map, AllByRecursion-push, AllByRecursion-weaker, at_each, at_each_other}
 
 -- ---- what is kept
@@ -44,6 +45,10 @@ pub record IsAskedIn (txns : List (TxnId × Txn)) (e : Entry) : Type 0 where
   pub asked : txn.asked ≡ true
   pub whole : e.ops ≡ ops_of txn
 
+-- the epoch was appointed
+abbrev pub IsAppointed : List Appointment → Epoch → Type 0
+IsAppointed appointments e = (a : Appointment) × (find (λ x. is_epoch e x.epoch) appointments ≡ Some a)
+
 pub record Kept (m : Machine) : Type 0 where
   pub order : Order
   pub one : m.orders ≡ order ∷ []
@@ -52,6 +57,7 @@ pub record Kept (m : Machine) : Type 0 where
   pub once : IsDistinct is_txn (map (λ e. e.txn) order.entries)
   pub asked : AllByRecursion (IsAskedIn m.txns) order.entries
   pub unbooted : m.appointments ≡ [] → m.txns ≡ []
+  pub named : (t : TxnId) (x : Txn) → lookup (is_txn t) m.txns ≡ Some x → IsAppointed m.appointments t.epoch
   pub unasked : (t : TxnId) (x : Txn) → lookup (is_txn t) m.txns ≡ Some x → x.live ≡ true → x.asked ≡ false
 
 pub order_is : (m : Machine) (k : Kept m) (r : ℕ) → order_of m r ≡ k.order
@@ -84,6 +90,7 @@ kept_empty = record {
   once = tt;
   asked = tt;
   unbooted = λ e. refl;
+  named = λ t x known. absurd (none-some x known);
   unasked = λ t x known. absurd (none-some x known);
 }
 
@@ -98,8 +105,23 @@ kept_put m k r new here = record {
   once = k.once;
   asked = k.asked;
   unbooted = k.unbooted;
+  named = k.named;
   unasked = k.unasked;
 }
+
+-- one that has the same role, order and show
+pub kept_beside : (m : Machine) (k : Kept m) (r : ℕ) (new : Replica) → new.loss ≡ (replica m r).loss → new.show ≡ (replica m r).show → new.role ≡ (replica m r).role → Kept (put_replica m r new)
+kept_beside m k r new loss show role = kept_put m k r new (record {
+  loss = loss ∙ (k.replicas r).loss;
+  within = subst (λ n. n ≤ length_of k.order) (sym show) (k.replicas r).within;
+  role = λ held e. subst (λ n. OfRole k.order m.acknowledged m.txns m.appointments r n held) (sym show) ((k.replicas r).role held (sym role ∙ e));
+})
+
+pub kept_grants : (m : Machine) (k : Kept m) (r : ℕ) (grants : List Grant) → Kept (put_grants m r grants)
+kept_grants m k r grants = kept_beside m k r (record (replica m r) { grants = grants }) refl refl refl
+
+pub kept_surveyed : (m : Machine) (k : Kept m) (r : ℕ) (e : Epoch) (faulted : Bool) → Kept (with_survey m r e faulted)
+kept_surveyed m k r e faulted = kept_beside m k r (record (replica m r) { surveys = record { epoch = e; faulted = faulted } ∷ (replica m r).surveys }) refl refl refl
 
 -- one that has no role, with the same order and no greater show than the order's length
 pub kept_without_role : (m : Machine) (k : Kept m) (r : ℕ) (new : Replica) → new.loss ≡ 0 → new.show ≤ length_of k.order → new.role ≡ None → Kept (put_replica m r new)
@@ -161,13 +183,14 @@ kept_ordering m k r t ops x known new asked whole =
       once = subst (IsDistinct is_txn) (sym (map_push (λ entry. entry.txn) k.order.entries e)) (IsDistinct-push is_txn_equivalence (map (λ entry. entry.txn) k.order.entries) t k.once fresh);
       asked = AllByRecursion-push (IsAskedIn m.txns) k.order.entries e k.asked (record { txn = x; known = known; asked = asked; whole = whole });
       unbooted = k.unbooted;
+      named = k.named;
       unasked = k.unasked;
     }
 
 -- ---- a transaction is acknowledged
 
-pub kept_acknowledging : (m : Machine) (k : Kept m) (r : ℕ) (t : TxnId) → is_shown m r t ≡ true → ((q : ℕ) (role : Role) → role_of m q ≡ Some role → role.active ≡ true → epoch_le t.epoch role.epoch ≡ true → is_shown m q t ≡ true) → Kept (acknowledging m t)
-kept_acknowledging m k r t shown elsewhere = record {
+kept_acknowledged : (m : Machine) (k : Kept m) (r : ℕ) (t : TxnId) → is_shown m r t ≡ true → ((q : ℕ) (role : Role) → role_of m q ≡ Some role → role.active ≡ true → epoch_le t.epoch role.epoch ≡ true → is_shown m q t ≡ true) → Kept (record m { acknowledged = t ∷ m.acknowledged })
+kept_acknowledged m k r t shown elsewhere = record {
   order = k.order;
   one = k.one;
   replicas = λ q. record {
@@ -191,8 +214,13 @@ kept_acknowledging m k r t shown elsewhere = record {
   once = k.once;
   asked = k.asked;
   unbooted = k.unbooted;
+  named = k.named;
   unasked = k.unasked;
 }
+
+pub kept_acknowledging : (m : Machine) (k : Kept m) (r : ℕ) (t : TxnId) → is_shown m r t ≡ true → ((q : ℕ) (role : Role) → role_of m q ≡ Some role → role.active ≡ true → epoch_le t.epoch role.epoch ≡ true → is_shown m q t ≡ true) → Kept (acknowledging m r t)
+kept_acknowledging m k r t shown elsewhere =
+    kept_grants (record m { acknowledged = t ∷ m.acknowledged }) (kept_acknowledged m k r t shown elsewhere) r (released (grants_of m r) t)
 
 -- ---- a known transaction changes
 
@@ -211,7 +239,7 @@ lookup_other : (txns : List (TxnId × Txn)) (t u : TxnId) (new : Txn) → is_txn
 lookup_other txns t u new other = cond-false (is_txn u t) (Some new) (lookup (is_txn u) txns) other
 
 -- no transaction is known in a machine that isn't booted
-no_txns : (m : Machine) (k : Kept m) (t : TxnId) (x : Txn) → txn_of m t ≡ Some x → m.appointments ≡ [] → ⊥
+pub no_txns : (m : Machine) (k : Kept m) (t : TxnId) (x : Txn) → txn_of m t ≡ Some x → m.appointments ≡ [] → ⊥
 no_txns m k t x known unbooted = none-some x (ap (λ txns. lookup (is_txn t) txns) (sym (k.unbooted unbooted)) ∙ known)
 
 asked_again : (txns : List (TxnId × Txn)) (t : TxnId) (old new : Txn) → lookup (is_txn t) txns ≡ Some old → (old.asked ≡ true → (new.asked ≡ true) × (ops_of old ≡ ops_of new)) → (e : Entry) → IsAskedIn txns e → IsAskedIn ((t, new) ∷ txns) e
@@ -248,6 +276,7 @@ kept_put_known m k t old new known stays off = record {
   once = k.once;
   asked = AllByRecursion-weaker (IsAskedIn m.txns) (IsAskedIn ((t, new) ∷ m.txns)) k.order.entries (asked_again m.txns t old new known stays) k.asked;
   unbooted = λ e. absurd (no_txns m k t old known e);
+  named = λ u y found. lookup_new m.txns t u new y found (λ here _. k.named u old (ap (λ v. lookup (is_txn v) m.txns) here ∙ known)) (k.named u y);
   unasked = λ u y found live. lookup_new m.txns t u new y found (λ _ is. ap (λ x. x.asked) (sym is) ∙ off (ap (λ x. x.live) is ∙ live)) (λ before. k.unasked u y before live);
 }
 
@@ -310,25 +339,37 @@ role_ended q txns role k = record {
   shows = k.shows;
 }
 
-pub kept_closed : (m : Machine) (k : Kept m) (r : ℕ) → Kept (closed m r)
-kept_closed m k r =
+-- its role ends, and what goes on there
+kept_ended : (m : Machine) (k : Kept m) (r : ℕ) (new : Replica) → new.loss ≡ (replica m r).loss → new.show ≡ (replica m r).show → new.role ≡ None → Kept (record (put_replica m r new) { txns = ended_at r m.txns })
+kept_ended m k r new loss show none =
     let later = ended_at r m.txns in
     record {
       order = k.order;
       one = k.one;
-      replicas = at_each (OfReplica k.order m.acknowledged later m.appointments) m.replicas r (record (replica m r) { up = false; role = None }) never_opened
+      replicas = at_each (OfReplica k.order m.acknowledged later m.appointments) m.replicas r new never_opened
           (λ q. record {
             loss = (k.replicas q).loss;
             within = (k.replicas q).within;
             role = λ role e. role_ended r m.txns role ((k.replicas q).role role e);
           })
-          (record { loss = (k.replicas r).loss; within = (k.replicas r).within; role = λ role e. absurd (none-some role e) });
+          (record {
+            loss = loss ∙ (k.replicas r).loss;
+            within = subst (λ n. n ≤ length_of k.order) (sym show) (k.replicas r).within;
+            role = λ role e. absurd (none-some role (sym none ∙ e));
+          });
       held = k.held;
       once = k.once;
       asked = AllByRecursion-weaker (IsAskedIn m.txns) (IsAskedIn later) k.order.entries (asked_ended r m.txns) k.asked;
       unbooted = λ e. ap (ended_at r) (k.unbooted e);
+      named = λ t y known. let x = known_before r m.txns t y known in k.named t x.0 x.1;
       unasked = λ t y known live. let x = known_before r m.txns t y known in sym (ap (λ z. z.asked) x.2) ∙ (ended_asked r x.0 ∙ k.unasked t x.0 x.1 (ended_live r x.0 (ap (λ z. z.live) x.2 ∙ live)));
     }
+
+pub kept_closed : (m : Machine) (k : Kept m) (r : ℕ) → Kept (closed m r)
+kept_closed m k r = kept_ended m k r (record (replica m r) { up = false; role = None; grants = [] }) refl refl refl
+
+pub kept_role_ended : (m : Machine) (k : Kept m) (r : ℕ) → Kept (without_role m r)
+kept_role_ended m k r = kept_ended m k r (record (replica m r) { role = None; grants = [] }) refl refl refl
 
 -- ---- a transaction begins
 
@@ -392,29 +433,56 @@ kept_begun m k r role is = record {
         asked = asked.asked;
         whole = asked.whole;
       }) k.asked;
+  named = λ u y found. lookup_new m.txns (next_of role) u (new_txn m r) y found
+      (λ here _. let of_role = (k.replicas r).role role is in (of_role.appointment, ap (λ v. find (λ a. is_epoch v.epoch a.epoch) m.appointments) here ∙ of_role.appointed))
+      (k.named u y);
   unbooted = λ e. absurd (none-some (((k.replicas r).role role is).appointment) (ap (λ others. find (λ a. is_epoch role.epoch a.epoch) others) (sym e) ∙ ((k.replicas r).role role is).appointed));
   unasked = λ u y found live. lookup_new m.txns (next_of role) u (new_txn m r) y found (λ _ new. ap (λ x. x.asked) (sym new)) (λ before. k.unasked u y before live);
 }
 
--- ---- a primary is active
+-- ---- appointments change
 
--- an appointment that notes it is of the same epoch and primary
-noting_found_in : (e f : Epoch) (x : Appointment) (others : List Appointment) (a : Appointment) (noted here : Bool) → is_epoch f x.epoch ≡ here → find (λ y. is_epoch f y.epoch) (x ∷ others) ≡ Some a → (find (λ y. is_epoch f y.epoch) others ≡ Some a → (b : Appointment) × (find (λ y. is_epoch f y.epoch) (noting_active e others) ≡ Some b) × (b.primary ≡ a.primary)) → (b : Appointment) × (find (λ y. is_epoch f y.epoch) (cond noted (record x { was_active = true }) x ∷ noting_active e others) ≡ Some b) × (b.primary ≡ a.primary)
-noting_found_in e f x others a true true is found rest = (record x { was_active = true }, cond-true (is_epoch f x.epoch) (Some (record x { was_active = true })) (find (λ y. is_epoch f y.epoch) (noting_active e others)) is, ap (λ y. y.primary) (same_Some x a (sym (cond-true (is_epoch f x.epoch) (Some x) (find (λ y. is_epoch f y.epoch) others) is) ∙ found)))
-noting_found_in e f x others a false true is found rest = (x, cond-true (is_epoch f x.epoch) (Some x) (find (λ y. is_epoch f y.epoch) (noting_active e others)) is, ap (λ y. y.primary) (same_Some x a (sym (cond-true (is_epoch f x.epoch) (Some x) (find (λ y. is_epoch f y.epoch) others) is) ∙ found)))
-noting_found_in e f x others a true false is found rest = let later = rest (sym (cond-false (is_epoch f x.epoch) (Some x) (find (λ y. is_epoch f y.epoch) others) is) ∙ found) in (later.0, cond-false (is_epoch f x.epoch) (Some (record x { was_active = true })) (find (λ y. is_epoch f y.epoch) (noting_active e others)) is ∙ later.1, later.2)
-noting_found_in e f x others a false false is found rest = let later = rest (sym (cond-false (is_epoch f x.epoch) (Some x) (find (λ y. is_epoch f y.epoch) others) is) ∙ found) in (later.0, cond-false (is_epoch f x.epoch) (Some x) (find (λ y. is_epoch f y.epoch) (noting_active e others)) is ∙ later.1, later.2)
+-- each epoch that was appointed is so still, to the same primary
+abbrev pub StaysAppointed : List Appointment → List Appointment → Type 0
+StaysAppointed old new =
+    (f : Epoch) (a : Appointment) → find (λ x. is_epoch f x.epoch) old ≡ Some a → (b : Appointment) × (find (λ x. is_epoch f x.epoch) new ≡ Some b) × (b.primary ≡ a.primary)
 
-pub noting_found : (e f : Epoch) (others : List Appointment) (a : Appointment) → find (λ x. is_epoch f x.epoch) others ≡ Some a → (b : Appointment) × (find (λ x. is_epoch f x.epoch) (noting_active e others) ≡ Some b) × (b.primary ≡ a.primary)
-noting_found e f [] a found = absurd (none-some a found)
-noting_found e f (x ∷ others) a found = noting_found_in e f x others a (is_epoch e x.epoch) (is_epoch f x.epoch) refl found (noting_found e f others a)
+stays_changed : (x y : Appointment) (old new : List Appointment) → y.epoch ≡ x.epoch → y.primary ≡ x.primary → StaysAppointed old new → StaysAppointed (x ∷ old) (y ∷ new)
+stays_changed x y old new epoch primary stays f a found =
+    let in_old = find (λ z. is_epoch f z.epoch) old in
+    let in_new = find (λ z. is_epoch f z.epoch) new in
+    elim (cases_Bool (is_epoch f x.epoch)) [
+      | inl here ↦ (y, cond-true (is_epoch f y.epoch) (Some y) in_new (ap (is_epoch f) epoch ∙ here), primary ∙ ap (λ z. z.primary) (same_Some x a (sym (cond-true (is_epoch f x.epoch) (Some x) in_old here) ∙ found)))
+      | inr other ↦
+          let later = stays f a (sym (cond-false (is_epoch f x.epoch) (Some x) in_old other) ∙ found) in
+          (later.0, cond-false (is_epoch f y.epoch) (Some y) in_new (ap (is_epoch f) epoch ∙ other) ∙ later.1, later.2)
+    ]
 
-noting_none : (e : Epoch) (others : List Appointment) → noting_active e others ≡ [] → others ≡ []
-noting_none e [] h = refl
-noting_none e (x ∷ others) h = absurd (cc)
+pub stays_noting : (e : Epoch) (others : List Appointment) → StaysAppointed others (noting_active e others)
+stays_noting e [] f a found = absurd (none-some a found)
+stays_noting e (x ∷ others) f a found =
+    let active : Appointment = record x { was_active = true } in
+    stays_changed x (cond (is_epoch e x.epoch) active x) others (noting_active e others) (cond_both (is_epoch e x.epoch) active x (λ y. y.epoch ≡ x.epoch) (λ _. refl) (λ _. refl)) (cond_both (is_epoch e x.epoch) active x (λ y. y.primary ≡ x.primary) (λ _. refl) (λ _. refl)) (stays_noting e others) f a found
 
-role_noted : (e : Epoch) {order : Order} {acknowledged : List TxnId} {txns : List (TxnId × Txn)} (appointments : List Appointment) {r show : ℕ} (role : Role) → OfRole order acknowledged txns appointments r show role → OfRole order acknowledged txns (noting_active e appointments) r show role
-role_noted e appointments role k = let b = noting_found e role.epoch appointments k.appointment k.appointed in record {
+pub stays_dropping : (e : Epoch) (others : List Appointment) → StaysAppointed others (dropping e others)
+stays_dropping e [] f a found = absurd (none-some a found)
+stays_dropping e (x ∷ others) f a found =
+    let dropped : Appointment = record x { dropped = true } in
+    stays_changed x (cond (is_epoch e x.epoch) dropped x) others (dropping e others) (cond_both (is_epoch e x.epoch) dropped x (λ y. y.epoch ≡ x.epoch) (λ _. refl) (λ _. refl)) (cond_both (is_epoch e x.epoch) dropped x (λ y. y.primary ≡ x.primary) (λ _. refl) (λ _. refl)) (stays_dropping e others) f a found
+
+pub stays_beside : (old more : List Appointment) → StaysAppointed old (old ++ more)
+stays_beside [] more f a found = absurd (none-some a found)
+stays_beside (x ∷ old) more f a found = stays_changed x x old (old ++ more) refl refl (stays_beside old more) f a found
+
+-- none was appointed, if there is none
+none_before : (old new : List Appointment) → StaysAppointed old new → new ≡ [] → old ≡ []
+none_before [] new stays none = refl
+none_before (x ∷ old) new stays none =
+    let found = stays x.epoch x (cond-true (is_epoch x.epoch x.epoch) (Some x) (find (λ y. is_epoch x.epoch y.epoch) old) (is_epoch_same x.epoch)) in
+    absurd (none-some found.0 (ap (λ others. find (λ y. is_epoch x.epoch y.epoch) others) (sym none) ∙ found.1))
+
+role_appointed : {order : Order} {acknowledged : List TxnId} {txns : List (TxnId × Txn)} (old new : List Appointment) {r show : ℕ} (role : Role) → StaysAppointed old new → OfRole order acknowledged txns old r show role → OfRole order acknowledged txns new r show role
+role_appointed old new role stays k = let b = stays role.epoch k.appointment k.appointed in record {
   appointment = b.0;
   appointed = b.1;
   primary = b.2 ∙ k.primary;
@@ -422,36 +490,41 @@ role_noted e appointments role k = let b = noting_found e role.epoch appointment
   shows = k.shows;
 }
 
+pub kept_appointments : (m : Machine) (k : Kept m) (config : List ℕ) (new : List Appointment) → StaysAppointed m.appointments new → Kept (record m { appointments = new; config = config })
+kept_appointments m k config new stays = record {
+  order = k.order;
+  one = k.one;
+  replicas = λ q. record {
+    loss = (k.replicas q).loss;
+    within = (k.replicas q).within;
+    role = λ role e. role_appointed m.appointments new role stays ((k.replicas q).role role e);
+  };
+  held = k.held;
+  once = k.once;
+  asked = k.asked;
+  unbooted = λ e. k.unbooted (none_before m.appointments new stays e);
+  named = λ t x known. let a = k.named t x known in let b = stays t.epoch a.0 a.1 in (b.0, b.1);
+  unasked = k.unasked;
+}
+
+-- ---- a primary is active
+
 pub kept_activated : (m : Machine) (k : Kept m) (r : ℕ) (role : Role) → role_of m r ≡ Some role → ((t : TxnId) → is_acknowledged m t ≡ true → epoch_le t.epoch role.epoch ≡ true → is_shown m r t ≡ true) → Kept (activated m r role)
 kept_activated m k r role is shows =
-    let later = noting_active role.epoch m.appointments in
-    record {
-      order = k.order;
-      one = k.one;
-      replicas = at_each (OfReplica k.order m.acknowledged m.txns later) m.replicas r (record (replica m r) { role = Some (record role { active = true }) }) never_opened
-          (λ q. record {
-            loss = (k.replicas q).loss;
-            within = (k.replicas q).within;
-            role = λ other e. role_noted role.epoch m.appointments other ((k.replicas q).role other e);
-          })
-          (record {
-            loss = (k.replicas r).loss;
-            within = (k.replicas r).within;
-            role = λ other e. subst (OfRole k.order m.acknowledged m.txns later r (replica m r).show) (same_Some (record role { active = true }) other e)
-                (let old = role_noted role.epoch m.appointments role ((k.replicas r).role role is) in record {
-                  appointment = old.appointment;
-                  appointed = old.appointed;
-                  primary = old.primary;
-                  counted = old.counted;
-                  shows = λ _ t ack le. sym (shown_is m k r t) ∙ shows t ack le;
-                });
+    let active : Role = record role { active = true } in
+    let put : Kept (put_role m r (Some active)) = kept_put m k r (record (replica m r) { role = Some active }) (record {
+      loss = (k.replicas r).loss;
+      within = (k.replicas r).within;
+      role = λ other e. subst (OfRole k.order m.acknowledged m.txns m.appointments r (replica m r).show) (same_Some active other e)
+          (let old = (k.replicas r).role role is in record {
+            appointment = old.appointment;
+            appointed = old.appointed;
+            primary = old.primary;
+            counted = old.counted;
+            shows = λ _ t ack le. sym (shown_is m k r t) ∙ shows t ack le;
           });
-      held = k.held;
-      once = k.once;
-      asked = k.asked;
-      unbooted = λ e. k.unbooted (noting_none role.epoch m.appointments e);
-      unasked = k.unasked;
-    }
+    }) in
+    kept_appointments (put_role m r (Some active)) put m.config (noting_active role.epoch m.appointments) (stays_noting role.epoch m.appointments)
 
 -- ---- the one order among those by loss number
 

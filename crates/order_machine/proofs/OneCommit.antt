@@ -1,7 +1,9 @@
 -- A run that commits one transaction, line by line.
 use Rattle.std.proofs.Common.{◌≡◌, ◌∙◌, ℕ, zero, suc, ◌≤◌, Bool, true, false, not, ◌&&◌, ◌||◌, cond, eqb, List, [], ◌∷◌, replicate, get_or, Some, None, refl, sym, ap, subst, inl, inr, arith}
+use Rattle.std.specs.List.{AllByRecursion}
+use Rattle.std.specs.Map.{lookup}
 use Rattle.std.specs.Option.{option_map_or}
-use Rattle.std.proofs.lemmas.Bool.{false≢true, cases_lt, and_right}
+use Rattle.std.proofs.lemmas.Bool.{false≢true, cases_lt, cond_both, and_right}
 use Rattle.std.proofs.lemmas.List.{get_or-replicate, get_or_past, length-replicate}
 use Rattle.std.proofs.lemmas.Option.{none-some}
 use Rattle.rc_base.specs.declared.ids.TxnId.{TxnId}
@@ -10,7 +12,7 @@ use Rattle.script_text.specs.declared.event.Call.TheVariants.{Begin, Commit}
 use Rattle.order_machine.specs.declared.observation.Observation.{Observation}
 use Rattle.order_machine.specs.declared.observation.Observation.TheVariants as says
 use Rattle.rc_base.specs.Ids.{is_txn}
-use Rattle.order_machine.specs.Machine.{Machine, Replica, Txn, empty_machine, never_opened, replica, role_of, has_role, is_active, is_pending}
+use Rattle.order_machine.specs.Machine.{Machine, Replica, Txn, empty_machine, never_opened, replica, role_of, has_role, is_acknowledged, is_active, is_pending}
 use Rattle.order_machine.specs.Rows.{HoldsBehind, first_epoch, new_role}
 use Rattle.order_machine.specs.Legal.{IsWhole, moved}
 use Rattle.order_machine.proofs.Behind.{not_alone}
@@ -28,22 +30,36 @@ never_put r =
 no_role : (m : Machine) (first : Replica) → m.replicas ≡ first ∷ replicate 8 never_opened → (r : ℕ) → role_of m (suc r) ≡ None
 no_role m first e r = ap (λ xs. (get_or xs (suc r) never_opened).role) e ∙ ap (λ x. x.role) (never_put r)
 
+pub no_roles : (m : Machine) (first : Replica) → m.replicas ≡ first ∷ replicate 8 never_opened → first.role ≡ None → (r : ℕ) → role_of m r ≡ None
+no_roles m first e none zero = ap (λ xs. (get_or xs 0 never_opened).role) e ∙ none
+no_roles m first e none (suc r) = no_role m first e r
+
 -- behind an event with nothing pending, in a world of replica 0
-holds_behind : (m : Machine) (first : Replica) → m.replicas ≡ first ∷ replicate 8 never_opened → is_active m 0 ≡ true → ((r : ℕ) (t : TxnId) → is_pending m r t ≡ false) → HoldsBehind m
+pub holds_behind : (m : Machine) (first : Replica) → m.replicas ≡ first ∷ replicate 8 never_opened → is_active m 0 ≡ true → ((r : ℕ) (t : TxnId) → is_pending m r t ≡ false) → HoldsBehind m
 holds_behind m first e active none = record {
   not_shown = λ r t h. absurd (false≢true (sym (none r t) ∙ h));
   alone = elim [ zero ↦ λ h. (active, none 0) | suc r ↦ λ h. absurd (not_alone m (suc r) (no_role m first e r) h) ];
 }
 
+-- where no commit was asked, nothing is pending
+asked_at : (r : ℕ) (t : TxnId) (txns : List (TxnId × Txn)) → AllByRecursion (λ entry. entry.1.asked ≡ false) txns → option_map_or (λ x. x.asked && eqb x.home r) (lookup (is_txn t) txns) false ≡ false
+asked_at r t [] all = refl
+asked_at r t (entry ∷ txns) all =
+    cond_both (is_txn t entry.0) (Some entry.1) (lookup (is_txn t) txns) (λ o. option_map_or (λ x. x.asked && eqb x.home r) o false ≡ false)
+    (λ _. ap (λ b. b && eqb entry.1.home r) all.0) (λ _. asked_at r t txns all.1)
+
+pub none_pending : (m : Machine) → AllByRecursion (λ entry. entry.1.asked ≡ false) m.txns → (r : ℕ) (t : TxnId) → is_pending m r t ≡ false
+none_pending m all r t = ap (λ b. b && (has_role m r t.epoch && not (is_acknowledged m t))) (asked_at r t m.txns all)
+
 -- ---- boot
 
-abbrev boot_lines : List Observation
+abbrev pub boot_lines : List Observation
 boot_lines = says.Up 0 ∷ says.View 0 0 ∷ says.Active 0 ∷ says.Done ∷ []
 
-abbrev booted : Machine
+abbrev pub booted : Machine
 booted = moved empty_machine (Boot 0 (0 ∷ [])) boot_lines
 
-whole_boot : IsWhole empty_machine (Boot 0 (0 ∷ [])) boot_lines
+pub whole_boot : IsWhole empty_machine (Boot 0 (0 ∷ [])) boot_lines
 whole_boot = record {
   may = (
     record { named = refl; in_rank = refl; next = refl; goes_on = refl; row = (refl, ([], refl)) },
@@ -83,27 +99,22 @@ whole_boot = record {
     ),
   );
   complete = record { opened = refl; grown = refl; mounted = refl; told = refl; answered = refl };
-  holds = holds_behind booted (replica booted 0) refl refl (λ r t. refl);
+  holds = holds_behind booted (replica booted 0) refl refl (none_pending booted tt);
 }
 
 -- ---- begin
 
-abbrev begun_machine : Machine
+abbrev pub begun_machine : Machine
 begun_machine = moved booted (Client 0 Begin) (says.Txn first_txn ∷ [])
 
 abbrev begun_txn : Txn
 begun_txn = record { home = 0; shown_at_begin = 0; calls = []; live = true; asked = false }
 
--- no commit was asked
-not_asked : (here : Bool) (r : ℕ) (rest : Bool) → (option_map_or (λ x. x.asked && eqb x.home r) (cond here (Some begun_txn) None) false && rest) ≡ false
-not_asked true r rest = refl
-not_asked false r rest = refl
-
-whole_begin : IsWhole booted (Client 0 Begin) (says.Txn first_txn ∷ [])
+pub whole_begin : IsWhole booted (Client 0 Begin) (says.Txn first_txn ∷ [])
 whole_begin = record {
   may = (record { named = refl; in_rank = refl; next = refl; goes_on = refl; row = (refl, refl) }, tt);
   complete = record { opened = refl; grown = refl; mounted = refl; told = refl; answered = refl };
-  holds = holds_behind begun_machine (replica begun_machine 0) refl refl (λ r t. not_asked (is_txn t first_txn) r (has_role begun_machine r t.epoch && true));
+  holds = holds_behind begun_machine (replica begun_machine 0) refl refl (none_pending begun_machine (refl, tt));
 }
 
 -- ---- commit

@@ -4,16 +4,17 @@ use Rattle.std.specs.List.{AllByRecursion, slice_split}
 use Rattle.std.specs.Str.Parse.{digits_value}
 use Rattle.std.proofs.lemmas.Fmt.{decimal_is_IsNumeral}
 use Rattle.std.proofs.lemmas.List.Elements.{recursion_from_All}
+use Rattle.rc_base.specs.declared.ids.Epoch.{Epoch}
 use Rattle.rc_base.specs.declared.ids.TxnId.{TxnId}
 use Rattle.coll_model.specs.declared.op.Kind.{Kind}
 use Rattle.coll_model.specs.declared.op.Kind.TheVariants as kinds
 use Rattle.coll_model.specs.declared.op.Op.{Op}
 use Rattle.coll_model.specs.declared.op.Op.TheVariants.{Make, Unmake, Put, Del, Push, Pop}
-use Rattle.script_text.specs.Sentence.{txn_text, IsTxn}
-use Rattle.script_text.specs.Reading.{txn_parts}
+use Rattle.script_text.specs.Sentence.{epoch_text, txn_text, IsEpoch, IsTxn}
+use Rattle.script_text.specs.Reading.{epoch_parts, txn_parts}
 use Rattle.script_text.proofs.Numbers.{Lacks, Lacks-decimal}
 use Rattle.script_text.proofs.Parts.{AllLack, Lacks-joined, parts_from_joined}
-use Rattle.script_text.proofs.EventWords.{AllLack-txn_parts}
+use Rattle.script_text.proofs.EventWords.{AllLack-epoch_parts, AllLack-txn_parts}
 use Rattle.order_machine.specs.declared.observation.Observation.{Observation}
 use Rattle.order_machine.specs.declared.observation.Observation.TheVariants as says
 use Rattle.order_machine.proofs.Lists.{AllByRecursion-weaker}
@@ -28,7 +29,25 @@ number-decimal : (n : ℕ) → n < 2 ^ 64 → number (decimal n) ≡ n
 unfolding number
 number-decimal n h = (decimal_is_IsNumeral n h).1
 
--- ---- transactions
+-- ---- epochs and transactions
+
+epoch_from : List (List ℕ) → Epoch
+epoch_from parts = record { loss = number (get_or parts 0 []); number = number (get_or parts 1 []) }
+
+epoch : List ℕ → Epoch
+epoch word = epoch_from (slice_split (λ x. eqb x 46) word)
+
+epoch-epoch_text : (e : Epoch) → IsEpoch e → epoch (epoch_text e) ≡ e
+unfolding epoch epoch_from
+epoch-epoch_text e h =
+    let parts = parts_from_joined 46 (epoch_text e) (epoch_parts e) (lit< tt) (AllLack-epoch_parts 46 e (lit< tt) h) refl in
+    let same : (l k : ℕ) → Epoch = λ l k. record { loss = l; number = k } in
+    ap epoch_from parts
+    ∙ (ap (λ l. same l (number (decimal e.number))) (number-decimal e.loss (omega arith))
+    ∙ ap (λ k. same e.loss k) (number-decimal e.number (omega arith)))
+
+Lacks-epoch_text : (e : Epoch) → IsEpoch e → Lacks 32 (epoch_text e)
+Lacks-epoch_text e h = Lacks-joined 32 46 (epoch_parts e) refl (AllLack-epoch_parts 32 e (lit< tt) h)
 
 txn_from : List (List ℕ) → TxnId
 txn_from parts = record { epoch = record { loss = number (get_or parts 0 []); number = number (get_or parts 1 []) }; n = number (get_or parts 2 []) }
@@ -133,6 +152,10 @@ AllLack-op_texts (op ∷ ops) h = (Lacks-joined 32 58 (op_parts op) refl (AllLac
 
 -- ---- observations
 
+ignored_from : List (List ℕ) → Observation
+ignored_from words =
+    cond (is_word (get_or words 1 []) (codes "up")) says.IgnoredUp (says.IgnoredOldEpoch (epoch (get_or words 2 [])) (epoch (get_or words 3 [])))
+
 answer_from : List ℕ → List (List ℕ) → Observation
 answer_from form words =
     let second = get_or words 1 [] in
@@ -143,8 +166,9 @@ answer_from form words =
     (cond (is_word form (codes "absent")) says.Absent
     (cond (is_word form (codes "wrongkind")) says.WrongKind
     (cond (is_word form (codes "fault")) (says.Fault (number second))
-    (cond (is_word form (codes "ignored")) says.IgnoredUp
-    (cond (is_word form (codes "state")) (says.State (number second) (number (get_or words 2 []))) (says.Rows (drop 1 words))))))))))
+    (cond (is_word form (codes "ignored")) (ignored_from words)
+    (cond (is_word form (codes "progress")) (says.Progress (number second) (epoch (get_or words 2 [])) (number (get_or words 3 [])))
+    (cond (is_word form (codes "state")) (says.State (number second) (number (get_or words 2 []))) (says.Rows (drop 1 words)))))))))))
 
 observation_from : List (List ℕ) → Observation
 observation_from words =
@@ -160,10 +184,11 @@ observation_from words =
     (cond (is_word form (codes "refused")) (says.Refused (number second))
     (cond (is_word form (codes "down")) (says.Down (number second))
     (cond (is_word form (codes "notactive")) (says.NotActive (number second))
-    (cond (is_word form (codes "ended")) (says.Ended (txn second)) (answer_from form words)))))))))))
+    (cond (is_word form (codes "ended")) (says.Ended (txn second))
+    (cond (is_word form (codes "locked")) (says.Locked (txn second)) (answer_from form words))))))))))))
 
 observation_from-words_of : (o : Observation) → IsPrintable o → observation_from (words_of o) ≡ o
-unfolding observation_from answer_from is_word
+unfolding observation_from answer_from ignored_from is_word
 observation_from-words_of (says.Up r) h = ap says.Up (number-decimal r h)
 observation_from-words_of (says.Order t ops) h = ap₂ says.Order (txn-txn_text t h.0) (operations-op_text ops (recursion_from_All IsPlainOp ops h.1))
 observation_from-words_of (says.View r n) h = ap₂ says.View (number-decimal r h.0) (number-decimal n h.1)
@@ -175,6 +200,7 @@ observation_from-words_of (says.Refused part) h = ap says.Refused (number-decima
 observation_from-words_of (says.Down r) h = ap says.Down (number-decimal r h)
 observation_from-words_of (says.NotActive r) h = ap says.NotActive (number-decimal r h)
 observation_from-words_of (says.Ended t) h = ap says.Ended (txn-txn_text t h)
+observation_from-words_of (says.Locked t) h = ap says.Locked (txn-txn_text t h)
 observation_from-words_of says.True h = refl
 observation_from-words_of says.False h = refl
 observation_from-words_of (says.Value value) h = refl
@@ -183,6 +209,10 @@ observation_from-words_of says.Absent h = refl
 observation_from-words_of says.WrongKind h = refl
 observation_from-words_of (says.Fault r) h = ap says.Fault (number-decimal r h)
 observation_from-words_of says.IgnoredUp h = refl
+observation_from-words_of (says.IgnoredOldEpoch fence e) h = ap₂ says.IgnoredOldEpoch (epoch-epoch_text fence h.0) (epoch-epoch_text e h.1)
+observation_from-words_of (says.Progress r e last) h =
+    ap (λ q. says.Progress q (epoch (epoch_text e)) (number (decimal last))) (number-decimal r h.0)
+    ∙ ap₂ (says.Progress r) (epoch-epoch_text e h.1) (number-decimal last h.2)
 observation_from-words_of (says.State r n) h = ap₂ says.State (number-decimal r h.0) (number-decimal n h.1)
 observation_from-words_of (says.Rows words) h = refl
 
@@ -202,6 +232,7 @@ AllLack-words_of (says.Refused part) h = (search rules, (Lacks-decimal 32 part (
 AllLack-words_of (says.Down r) h = (search rules, (Lacks-decimal 32 r (lit< tt) h, tt))
 AllLack-words_of (says.NotActive r) h = (search rules, (Lacks-decimal 32 r (lit< tt) h, tt))
 AllLack-words_of (says.Ended t) h = (search rules, (Lacks-txn_text t h, tt))
+AllLack-words_of (says.Locked t) h = (search rules, (Lacks-txn_text t h, tt))
 AllLack-words_of says.True h = (search rules, tt)
 AllLack-words_of says.False h = (search rules, tt)
 AllLack-words_of (says.Value value) h = (search rules, ((Lacks-plain value h).0, tt))
@@ -210,6 +241,8 @@ AllLack-words_of says.Absent h = (search rules, tt)
 AllLack-words_of says.WrongKind h = (search rules, tt)
 AllLack-words_of (says.Fault r) h = (search rules, (Lacks-decimal 32 r (lit< tt) h, tt))
 AllLack-words_of says.IgnoredUp h = (search rules, (search rules, tt))
+AllLack-words_of (says.IgnoredOldEpoch fence e) h = (search rules, (search rules, (Lacks-epoch_text fence h.0, (Lacks-epoch_text e h.1, tt))))
+AllLack-words_of (says.Progress r e last) h = (search rules, (Lacks-decimal 32 r (lit< tt) h.0, (Lacks-epoch_text e h.1, (Lacks-decimal 32 last (lit< tt) h.2, tt))))
 AllLack-words_of (says.State r n) h = (search rules, (Lacks-decimal 32 r (lit< tt) h.0, (Lacks-decimal 32 n (lit< tt) h.1, tt)))
 AllLack-words_of (says.Rows words) h = (search rules, AllLack-plain words (recursion_from_All IsPlain words h))
 

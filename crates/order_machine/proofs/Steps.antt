@@ -5,21 +5,24 @@ use Rattle.std.specs.Option.{option_map_or}
 use Rattle.std.specs.Map.{lookup}
 use Rattle.std.proofs.lemmas.Bool.{false≢true, and_parts, cond_both, not-true, eqb-true}
 use Rattle.std.proofs.lemmas.Option.{none-some, same_Some}
+use Rattle.rc_base.specs.declared.ids.Epoch.{Epoch}
 use Rattle.rc_base.specs.declared.ids.TxnId.{TxnId}
 use Rattle.coll_model.specs.declared.op.Op.{Op}
 use Rattle.script_text.specs.declared.event.Event.{Event}
-use Rattle.script_text.specs.declared.event.Event.TheVariants.{Boot, Client, Arm, Crash, Reboot, Inspect}
+use Rattle.script_text.specs.declared.event.Event.TheVariants.{Boot, Client, Arm, Crash, Reboot, Inspect, Survey, Appoint, Activate}
 use Rattle.script_text.specs.declared.event.Call.{Call}
 use Rattle.order_machine.specs.declared.observation.Observation.{Observation}
 use Rattle.order_machine.specs.declared.observation.Observation.TheVariants as says
 use Rattle.order_machine.specs.declared.reply.Reply.{Reply}
+use Rattle.config_rule.specs.declared.answers.Answer.{Answer}
+use Rattle.config_rule.specs.Rule.{with_answer}
 use Rattle.rc_base.specs.Ids.{is_epoch, is_txn}
 use Rattle.order_machine.specs.Order.{length_of}
-use Rattle.order_machine.specs.Machine.{Machine, Txn, Appointment, never_opened, replica, put_replica, put_role, role_of, is_active, ended_at, closed}
+use Rattle.order_machine.specs.Machine.{Machine, Txn, Appointment, never_opened, replica, put_replica, put_role, role_of, is_active, ended_at, without_role, closed}
 use Rattle.order_machine.specs.Answers.{plain, answer, begun_by, noted, next_txn, txn_named}
-use Rattle.order_machine.specs.Rows.{Position, event_primary, first_epoch, is_boot, is_call, is_opening, May, MayAnswer, MayFail, MayFailFirst, logs, after, MayBeDone, acknowledging, is_asked_commit, answering, answered_by, new_role, with_first_role, showing, activated, up_again}
+use Rattle.order_machine.specs.Rows.{Position, first_epoch, is_boot, is_call, is_opening, is_reconfiguration, May, MayAnswer, MayTellProgress, MayIgnoreOldEpoch, MayFail, MayFailFirst, logs, after, MayBeDone, failed, with_survey, surveyed, acknowledging, is_asked_commit, answering, answered_by, new_role, with_first_role, showing, activated, up_again}
 use Rattle.order_machine.proofs.Lists.{at_written, some_of, none_of, passed}
-use Rattle.order_machine.proofs.Kept.{Kept, OfRole, order_is, kept_put, kept_without_role, kept_showing, kept_ordering, kept_acknowledging, kept_noted, kept_closed, known_before, ended_asked, kept_begun, kept_activated, noting_found}
+use Rattle.order_machine.proofs.Kept.{Kept, OfRole, order_is, kept_put, kept_without_role, kept_showing, kept_ordering, kept_acknowledging, kept_noted, kept_closed, known_before, ended_asked, kept_surveyed, kept_begun, kept_activated, kept_role_ended, stays_noting}
 
 -- ---- what holds at a place among the lines of an event
 
@@ -68,12 +71,23 @@ no_boot event r members call e = absurd (false≢true (sym (ap is_call e) ∙ ca
 no_call : {P : Type 0} (event : Event) (r : ℕ) (call : Call) → is_opening event ≡ true → event ≡ Client r call → P
 no_call event r call opens e = absurd (false≢true (sym (ap is_opening e) ∙ opens))
 
--- a call that has such a line has no answer of its own
-unanswered_view : (event : Event) (client : Option Reply) (r : ℕ) (call : Call) → event ≡ Client r call → (is_opening event || (is_call event && is_none client)) ≡ true → is_none client ≡ true
-unanswered_view event client r call e h = subst (λ x. (is_opening x || (is_call x && is_none client)) ≡ true) e h
+-- no more do the events whose steps may lengthen an order
+no_boot_grows : {P : Type 0} (event : Event) (client : Option Reply) (r : ℕ) (members : List ℕ) → ((is_call event && is_none client) || is_reconfiguration event) ≡ true → event ≡ Boot r members → P
+no_boot_grows event client r members h e = absurd (false≢true (subst (λ x. ((is_call x && is_none client) || is_reconfiguration x) ≡ true) e h))
 
-unanswered_active : (event : Event) (client : Option Reply) (r : ℕ) (call : Call) → event ≡ Client r call → (is_boot event || (is_call event && is_none client)) ≡ true → is_none client ≡ true
-unanswered_active event client r call e h = subst (λ x. (is_boot x || (is_call x && is_none client)) ≡ true) e h
+-- a call that has such a line has no answer of its own
+or_nothing : (b : Bool) → (b || false) ≡ true → b ≡ true
+or_nothing true h = refl
+or_nothing false h = h
+
+unanswered_order : (event : Event) (client : Option Reply) (r : ℕ) (call : Call) → event ≡ Client r call → ((is_call event && is_none client) || is_reconfiguration event) ≡ true → is_none client ≡ true
+unanswered_order event client r call e h = or_nothing (is_none client) (subst (λ x. ((is_call x && is_none client) || is_reconfiguration x) ≡ true) e h)
+
+unanswered_view : (event : Event) (client : Option Reply) (r : ℕ) (call : Call) → event ≡ Client r call → (is_opening event || ((is_call event && is_none client) || is_reconfiguration event)) ≡ true → is_none client ≡ true
+unanswered_view event client r call e h = or_nothing (is_none client) (subst (λ x. (is_opening x || ((is_call x && is_none client) || is_reconfiguration x)) ≡ true) e h)
+
+unanswered_active : (event : Event) (client : Option Reply) (r : ℕ) (call : Call) → event ≡ Client r call → (is_boot event || ((is_call event && is_none client) || is_reconfiguration event)) ≡ true → is_none client ≡ true
+unanswered_active event client r call e h = or_nothing (is_none client) (subst (λ x. (is_boot x || ((is_call x && is_none client) || is_reconfiguration x)) ≡ true) e h)
 
 pub not_open : {P : Type 0} (o : Option ℕ) (r : ℕ) → is_none o ≡ true → o ≡ Some r → P
 not_open o r none e = absurd (none-some r (sym (none_of o (not-true (is_some o) none)) ∙ e))
@@ -94,10 +108,10 @@ kept_up p r k h =
 
 kept_order : (p : Position) (t : TxnId) (ops : List Op) → KeptAt p → May p (says.Order t ops) → KeptAt (after p (says.Order t ops))
 kept_order p t ops k h = record {
-  machine = kept_ordering p.machine k.machine (event_primary p.event) t ops h.row.txn h.row.known h.row.new h.row.asked h.row.whole;
+  machine = kept_ordering p.machine k.machine (p.primary) t ops h.row.txn h.row.known h.row.new h.row.asked h.row.whole;
   opening = λ q e. not_open p.opening q h.next e;
-  booting = λ q members e. no_boot p.event q members (and_parts (is_call p.event) (is_none p.client) h.named).0 e;
-  calling = λ q call e unanswered. calling_on p.machine (after p (says.Order t ops)).machine q call p.client (and_parts (is_call p.event) (is_none p.client) h.named).1 (k.calling q call e unanswered);
+  booting = λ q members e. no_boot_grows p.event p.client q members h.named e;
+  calling = λ q call e unanswered. calling_on p.machine (after p (says.Order t ops)).machine q call p.client (unanswered_order p.event p.client q call e h.named) (k.calling q call e unanswered);
 }
 
 -- ---- view
@@ -124,6 +138,9 @@ kept_first_role m k (Arm r calls) mounts booting = k
 kept_first_role m k (Crash r pick) mounts booting = k
 kept_first_role m k (Reboot r) mounts booting = k
 kept_first_role m k (Inspect r) mounts booting = k
+kept_first_role m k (Survey r e) mounts booting = k
+kept_first_role m k (Appoint e p members) mounts booting = k
+kept_first_role m k (Activate e) mounts booting = k
 
 booting_first_role : (m : Machine) (event : Event) (mounts : List ℕ) (r : ℕ) → IsBooting m.txns m.appointments r → IsBooting (with_first_role m event mounts).txns (with_first_role m event mounts).appointments r
 booting_first_role m (Boot p members) [] r b = cond_both (replica m p).up (put_role m p (Some (new_role first_epoch))) m (λ x. IsBooting x.txns x.appointments r) (λ _. b) (λ _. b)
@@ -133,6 +150,9 @@ booting_first_role m (Arm p calls) mounts r b = b
 booting_first_role m (Crash p pick) mounts r b = b
 booting_first_role m (Reboot p) mounts r b = b
 booting_first_role m (Inspect p) mounts r b = b
+booting_first_role m (Survey p e) mounts r b = b
+booting_first_role m (Appoint e p members) mounts r b = b
+booting_first_role m (Activate e) mounts r b = b
 
 -- behind `up`
 kept_opened_view : (p : Position) (r n rank : ℕ) → KeptAt p → May p (says.View r n) → (q : ℕ) → p.opening ≡ Some q → KeptAt (record p { machine = with_first_role (showing p.machine r n) p.event p.mounts; opening = None; rank = rank })
@@ -174,7 +194,7 @@ kept_active p r k h =
     let active : KeptAt (record p { machine = activated m r role; rose = r ∷ p.rose; rank = 4 }) = record {
       machine = kept_activated m k.machine r role h.row.has h.row.shows;
       opening = λ q e. not_open p.opening q (and_parts (is_none p.opening) (not p.growing) h.next).0 e;
-      booting = λ q members e. let b = k.booting q members e in let a = noting_found role.epoch first_epoch m.appointments b.appointment b.appointed in record {
+      booting = λ q members e. let b = k.booting q members e in let a = stays_noting role.epoch m.appointments first_epoch b.appointment b.appointed in record {
         none = b.none;
         appointment = a.0;
         appointed = a.1;
@@ -188,10 +208,10 @@ kept_active p r k h =
 
 kept_committed : (p : Position) (t : TxnId) → KeptAt p → May p (says.Committed t) → KeptAt (after p (says.Committed t))
 kept_committed p t k h = record {
-  machine = kept_acknowledging p.machine k.machine (event_primary p.event) t h.row.shown h.row.elsewhere;
+  machine = kept_acknowledging p.machine k.machine (p.primary) t h.row.shown h.row.elsewhere;
   opening = λ q e. not_open p.opening q (and_parts (is_none p.opening) (not p.growing) h.next).0 e;
-  booting = λ q members e. no_boot p.event q members (and_parts (is_call p.event) (is_none p.client) h.named).0 e;
-  calling = λ q call e answered. calling_on p.machine (acknowledging p.machine t) q call p.client (and_parts (is_call p.event) (is_none p.client) h.named).1 (k.calling q call e (unanswered p.answered (is_asked_commit p.event t) answered));
+  booting = λ q members e. no_boot_grows p.event p.client q members h.named e;
+  calling = λ q call e answered. calling_on p.machine (acknowledging p.machine p.primary t) q call p.client (unanswered_order p.event p.client q call e h.named) (k.calling q call e (unanswered p.answered (is_asked_commit p.event t) answered));
 }
   where
     unanswered : (a b : Bool) → (a || b) ≡ false → a ≡ false
@@ -231,6 +251,9 @@ kept_begin m k r call (says.Fault q) none h = k
 kept_begin m k r call says.IgnoredUp none h = k
 kept_begin m k r call (says.State q n) none h = k
 kept_begin m k r call (says.Rows words) none h = k
+kept_begin m k r call (says.Locked t) none h = k
+kept_begin m k r call (says.IgnoredOldEpoch fence e) none h = k
+kept_begin m k r call (says.Progress q e last) none h = k
 
 kept_answered : (m : Machine) (k : Kept m) (event : Event) (client : Option Reply) (o : Observation) → ((r : ℕ) (call : Call) → event ≡ Client r call → IsCalling m r call client) → (is_call event ≡ true → option_map (λ reply. reply.answer) client ≡ Some o) → Kept (answered_by m event (record { answer = o; op = option_and_then (λ reply. reply.op) client }))
 kept_answered m k (Boot p members) client o calling says = k
@@ -238,6 +261,9 @@ kept_answered m k (Arm r calls) client o calling says = k
 kept_answered m k (Crash r pick) client o calling says = k
 kept_answered m k (Reboot r) client o calling says = k
 kept_answered m k (Inspect r) client o calling says = k
+kept_answered m k (Survey r e) client o calling says = k
+kept_answered m k (Appoint e p members) client o calling says = k
+kept_answered m k (Activate e) client o calling says = k
 kept_answered m k (Client r call) client o calling says = by_name (txn_named call) refl
   where
     by_name : (named : Option TxnId) → txn_named call ≡ named → Kept (option_map_or (λ t. noted m t (record { call = call; answer = o; op = option_and_then (λ reply. reply.op) client })) named (begun_by m r o))
@@ -251,6 +277,9 @@ booting_answered m (Arm r calls) reply primary members e b = b
 booting_answered m (Crash r pick) reply primary members e b = b
 booting_answered m (Reboot r) reply primary members e b = b
 booting_answered m (Inspect r) reply primary members e b = b
+booting_answered m (Survey r epoch) reply primary members e b = b
+booting_answered m (Appoint epoch p others) reply primary members e b = b
+booting_answered m (Activate epoch) reply primary members e b = b
 
 kept_answering : (p : Position) (o : Observation) (rank : ℕ) → KeptAt p → is_none p.opening ≡ true → p.answered ≡ false → (is_call p.event ≡ true → option_map (λ reply. reply.answer) p.client ≡ Some o) → KeptAt (record (answering p o) { rank = rank })
 kept_answering p o rank k next unanswered is = record {
@@ -277,21 +306,24 @@ kept_done p k h =
     by_event (Crash r pick) done = (done, λ e. absurd (false≢true e))
     by_event (Reboot r) done = absurd done
     by_event (Inspect r) done = absurd done
+    by_event (Survey r epoch) done = absurd done
+    by_event (Appoint epoch r members) done = (done, λ e. absurd (false≢true e))
+    by_event (Activate epoch) done = (done, λ e. absurd (false≢true e))
 
 -- ---- a fault
 
 -- one in the first step of a call is no begin's, which logs nothing
-begin_logs : (m : Machine) (r : ℕ) (call : Call) (client : Option Reply) → txn_named call ≡ None → client ≡ answer m r call → logs client ≡ true → ⊥
-begin_logs m r call client none is h = plain_logs (replica m r).up (is_active m r) (ap logs (sym (is ∙ answer_is m r call none)) ∙ h)
+begin_logs : (m n : Machine) (r : ℕ) (call : Call) (client : Option Reply) → txn_named call ≡ None → client ≡ answer m r call → logs n call client ≡ true → ⊥
+begin_logs m n r call client none is h = plain_logs (replica m r).up (is_active m r) (ap (logs n call) (sym (is ∙ answer_is m r call none)) ∙ h)
   where
-    plain_logs : (up active : Bool) → logs (cond (not up) (Some (plain (says.Down r))) (cond (not active) (Some (plain (says.NotActive r))) (Some (plain (says.Txn (next_txn (role_of m r))))))) ≡ true → ⊥
+    plain_logs : (up active : Bool) → logs n call (cond (not up) (Some (plain (says.Down r))) (cond (not active) (Some (plain (says.NotActive r))) (Some (plain (says.Txn (next_txn (role_of m r))))))) ≡ true → ⊥
     plain_logs false active e = false≢true e
     plain_logs true false e = false≢true e
     plain_logs true true e = false≢true e
 
-calling_closed : (m : Machine) (q r : ℕ) (call : Call) (client : Option Reply) → logs client ≡ true → IsCalling m r call client → IsCalling (closed m q) r call client
+calling_closed : (m : Machine) (q r : ℕ) (call : Call) (client : Option Reply) → logs m call client ≡ true → IsCalling m r call client → IsCalling (closed m q) r call client
 calling_closed m q r call client h k = record {
-  begins = λ e. absurd (begin_logs m r call client e (k.begins e) h);
+  begins = λ e. absurd (begin_logs m m r call client e (k.begins e) h);
   logs = λ t y e known asked. let x = known_before q m.txns t y known in k.logs t x.0 e x.1 (sym (ended_asked q x.0) ∙ (ap (λ z. z.asked) x.2 ∙ asked));
 }
 
@@ -299,24 +331,90 @@ booting_closed : (m : Machine) (q primary : ℕ) → IsBooting m.txns m.appointm
 booting_closed m q primary b = record { none = ap (ended_at q) b.none; appointment = b.appointment; appointed = b.appointed; first = b.first }
 
 -- the event is a call that logs, or it is answered, or it is none
-fault_calling : (p : Position) (r q : ℕ) (call : Call) → MayFail p r → p.event ≡ Client q call → p.answered ≡ false → logs p.client ≡ true
+fault_calling : (p : Position) (r q : ℕ) (call : Call) → MayFail p r → p.event ≡ Client q call → p.answered ≡ false → logs p.machine call p.client ≡ true
 fault_calling p r q call (inl first) e unanswered = (subst (λ event. MayFailFirst p event r) e first).2
 fault_calling p r q call (inr second) e unanswered = absurd (false≢true (sym unanswered ∙ second.answered))
 
+kept_failed : (m : Machine) (k : Kept m) (event : Event) (r : ℕ) → Kept (failed m event r)
+kept_failed m k (Boot p members) r = kept_closed m k r
+kept_failed m k (Client p call) r = kept_closed m k r
+kept_failed m k (Arm p calls) r = kept_closed m k r
+kept_failed m k (Crash p pick) r = kept_closed m k r
+kept_failed m k (Reboot p) r = kept_closed m k r
+kept_failed m k (Inspect p) r = kept_closed m k r
+kept_failed m k (Survey p e) r = kept_surveyed (closed m r) (kept_closed m k r) r e true
+kept_failed m k (Appoint e p members) r = kept_closed m k r
+kept_failed m k (Activate e) r = kept_closed m k r
+
+booting_failed : (m : Machine) (event : Event) (r q : ℕ) (members : List ℕ) → event ≡ Boot q members → IsBooting m.txns m.appointments q → IsBooting (failed m event r).txns (failed m event r).appointments q
+booting_failed m event r q members e b = subst (λ x. IsBooting (failed m x r).txns (failed m x r).appointments q) (sym e) (booting_closed m r q b)
+
 kept_fault : (p : Position) (r : ℕ) → KeptAt p → May p (says.Fault r) → KeptAt (after p (says.Fault r))
 kept_fault p r k h =
-    let m = closed p.machine r in
+    let m = failed p.machine p.event r in
     let mounts = drop 1 p.mounts in
-    let first : (q : ℕ) (members : List ℕ) → p.event ≡ Boot q members → IsBooting m.txns m.appointments q = λ q members e. booting_closed p.machine r q (k.booting q members e) in
+    let first : (q : ℕ) (members : List ℕ) → p.event ≡ Boot q members → IsBooting m.txns m.appointments q = λ q members e. booting_failed p.machine p.event r q members e (k.booting q members e) in
     record {
-      machine = kept_first_role m (kept_closed p.machine k.machine r) p.event mounts first;
+      machine = kept_first_role m (kept_failed p.machine k.machine p.event r) p.event mounts first;
       opening = λ q e. not_open p.opening q (and_parts (is_none p.opening) (not p.growing) h.next).0 e;
       booting = λ q members e. booting_first_role m p.event mounts q (first q members e);
-      calling = λ q call e unanswered. subst (λ n. IsCalling n q call p.client) (sym (no_first_role m p.event mounts q call e)) (calling_closed p.machine r q call p.client (fault_calling p r q call h.row e unanswered) (k.calling q call e unanswered));
+      calling = λ q call e unanswered. subst (λ n. IsCalling n q call p.client) (sym (no_first_role p.machine p.event mounts q call e)) (calling_closed p.machine r q call p.client (fault_calling p r q call h.row e unanswered) (k.calling q call e unanswered));
     }
   where
-    no_first_role : (m : Machine) (event : Event) (mounts : List ℕ) (q : ℕ) (call : Call) → event ≡ Client q call → with_first_role m event mounts ≡ m
-    no_first_role m event mounts q call e = subst (λ x. with_first_role m x mounts ≡ m) (sym e) refl
+    no_first_role : (m : Machine) (event : Event) (mounts : List ℕ) (q : ℕ) (call : Call) → event ≡ Client q call → with_first_role (failed m event r) event mounts ≡ closed m r
+    no_first_role m event mounts q call e = subst (λ x. with_first_role (failed m x r) x mounts ≡ closed m r) (sym e) refl
+
+-- ---- a survey
+
+-- what is kept of answers to surveys is none of this
+kept_with_answers : (m : Machine) (k : Kept m) (answers : List Answer) → Kept (record m { answers = answers })
+kept_with_answers m k answers = record {
+  order = k.order;
+  one = k.one;
+  replicas = k.replicas;
+  held = k.held;
+  once = k.once;
+  asked = k.asked;
+  unbooted = k.unbooted;
+  named = k.named;
+  unasked = k.unasked;
+}
+
+kept_progress : (p : Position) (r : ℕ) (last_epoch : Epoch) (last : ℕ) → KeptAt p → May p (says.Progress r last_epoch last) → KeptAt (after p (says.Progress r last_epoch last))
+kept_progress p r last_epoch last k h = record {
+  machine = by_event p.event h.row;
+  opening = λ q e. not_open p.opening q (and_parts (is_none p.opening) (not p.growing) h.next).0 e;
+  booting = λ q members e. absurd (subst (λ event. MayTellProgress p event r last_epoch last) e h.row);
+  calling = λ q call e still. absurd (false≢true (sym still));
+}
+  where
+    by_event : (event : Event) → MayTellProgress p event r last_epoch last → Kept (surveyed p.machine event r last_epoch last)
+    by_event (Survey at e) row =
+        kept_with_answers (with_survey (without_role p.machine r) r e false) (kept_surveyed (without_role p.machine r) (kept_role_ended p.machine k.machine r) r e false) (with_answer (record { epoch = e; from = r; last_epoch = last_epoch; last = record { 0 = last } }) p.machine.answers)
+    by_event (Boot q members) row = absurd row
+    by_event (Client q call) row = absurd row
+    by_event (Arm q calls) row = absurd row
+    by_event (Crash q pick) row = absurd row
+    by_event (Reboot q) row = absurd row
+    by_event (Inspect q) row = absurd row
+    by_event (Appoint e q members) row = absurd row
+    by_event (Activate e) row = absurd row
+
+kept_old_epoch : (p : Position) (fence e : Epoch) → KeptAt p → May p (says.IgnoredOldEpoch fence e) → KeptAt (after p (says.IgnoredOldEpoch fence e))
+kept_old_epoch p fence e k h =
+    let row = by_event p.event h.row in
+    kept_answering p (says.IgnoredOldEpoch fence e) 6 k (and_parts (is_none p.opening) (not p.growing) h.next).0 row.0 row.1
+  where
+    by_event : (event : Event) → MayIgnoreOldEpoch p event fence e → (p.answered ≡ false) × (is_call event ≡ true → option_map (λ reply. reply.answer) p.client ≡ Some (says.IgnoredOldEpoch fence e))
+    by_event (Survey at surveyed) row = (row.3, λ call. absurd (false≢true call))
+    by_event (Boot q members) row = absurd row
+    by_event (Client q call) row = absurd row
+    by_event (Arm q calls) row = absurd row
+    by_event (Crash q pick) row = absurd row
+    by_event (Reboot q) row = absurd row
+    by_event (Inspect q) row = absurd row
+    by_event (Appoint epoch q members) row = absurd row
+    by_event (Activate epoch) row = absurd row
 
 -- ---- an inspection
 
@@ -355,3 +453,6 @@ kept_line p (says.Fault r) k h = kept_fault p r k h
 kept_line p says.IgnoredUp k h = absurd h.row
 kept_line p (says.State r n) k h = kept_state p r n k h
 kept_line p (says.Rows words) k h = kept_rows p words k
+kept_line p (says.Locked t) k h = kept_reply p (says.Locked t) 6 k h.next h.row
+kept_line p (says.IgnoredOldEpoch fence e) k h = kept_old_epoch p fence e k h
+kept_line p (says.Progress r e last) k h = kept_progress p r e last k h

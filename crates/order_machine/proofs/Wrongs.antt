@@ -1,19 +1,16 @@
 -- Words that are read from left to right, one and then those behind it.
-use Rattle.std.proofs.Common.{◌≡◌, ◌∙◌, ℕ, suc, ◌-◌, ◌<◌, ◌≤◌, List, [], ◌∷◌, ◌++◌, map, take, drop, get_or, length, decimal, Bool, true, false, not, Result, Ok, Err, refl, sym, ap, subst, arith, lit<}
+use Rattle.std.proofs.Common.{◌≡◌, ◌∙◌, ℕ, suc, ◌-◌, ◌<◌, ◌≤◌, List, [], ◌∷◌, ◌++◌, take, drop, get_or, length, Result, Err, refl, sym, ap, subst, arith, lit<}
 use Rattle.std.specs.Borrow.{Bor}
-use Rattle.std.specs.Str.{bytes_eq}
-use Rattle.std.proofs.lemmas.Slice.Eq.{bytes_eq-Decides}
 use Rattle.std.proofs.Math.Seq.{take-length}
 use Rattle.std.proofs.lemmas.List.{length-map}
+use Rattle.rc_base.specs.declared.ids.Epoch.{Epoch}
 use Rattle.rc_base.specs.declared.ids.TxnId.{TxnId}
-use Rattle.coll_model.specs.declared.op.Op.{Op}
 use Rattle.script_text.specs.Reading.{texts}
-use Rattle.script_text.specs.Sentence.{txn_text, IsTxn}
+use Rattle.script_text.specs.Sentence.{IsEpoch, IsTxn}
 use Rattle.order_machine.specs.declared.word_error.WordError.{WordError}
 use Rattle.order_machine.specs.declared.word_error.WordError.TheVariants.{Wrong, NoMemory}
-use Rattle.order_machine.specs.Lines.{op_text}
 use Rattle.order_machine.specs.ReadBack.{Spells, IsWrongBehind}
-use Rattle.order_machine.specs.WordReading.{IsWrong, Reads, nothing_words, IsNothing, number_words, IsNumber, pair_words, IsPair, op_words, AreSaidOps, order_words, IsOrder}
+use Rattle.order_machine.specs.WordReading.{IsWrong, Reads, nothing_words, IsNothing, IsOrder}
 
 -- ---- texts
 
@@ -29,13 +26,6 @@ same_first word other words others e = cc
 
 pub same_rest : (word other : List ℕ) (words others : List (List ℕ)) → word ∷ words ≡ other ∷ others → words ≡ others
 same_rest word other words others e = cc
-
--- a word that isn't another than a text is the text
-pub same_text : (word other text : List ℕ) (differs : Bool) → differs ≡ false → differs ≡ not (bytes_eq word other) → other ≡ text → word ≡ text
-same_text word other text differs not_other is same = (bytes_eq-Decides word other).0 (both_not (bytes_eq word other) (sym is ∙ not_other)) ∙ same where
-  both_not : (b : Bool) → not b ≡ false → b ≡ true
-  both_not true e = refl
-  both_not false e = cc
 
 -- ---- lists of words
 
@@ -112,32 +102,24 @@ pub one_more : {X : Type 0} (text : X → List ℕ) (Fits : X → Type 0) (x : X
 one_more text Fits x fits words other e r some is same =
     wrong_behind (λ y. text y ∷ []) Fits nothing_words IsNothing words other (λ more none. (x, fits, cc)) (λ more spells. (tt, tt, cc)) e r some same
 
-pub one_alone : (text : List ℕ) (words : List (Bor (List ℕ))) (other : Bor (List ℕ)) (r : Result (Unit {0}) WordError)
-    → 1 ≤ length words → (get_or words 0 other).now ≡ text → Reads nothing_words IsNothing (texts (take (length words - 1) (drop 1 words))) r → Reads (λ u. text ∷ []) IsNothing (texts words) r
-one_alone text words other (Ok u) some is reads = (tt, texts_first words other some ∙ (ap (λ w. w ∷ texts (take (length words - 1) (drop 1 words))) is ∙ ap (λ ws. text ∷ ws) reads.1))
-one_alone text words other (Err e) some is reads = one_more (λ u. text) IsNothing tt tt words other e (Err e) some is refl reads
+-- ---- a word and those behind it
 
--- ---- a replica and a number
-
-pub pair_behind : (r : ℕ) → r < 9 → (words : List (Bor (List ℕ))) (other : Bor (List ℕ)) (e : WordError) (result : Result (ℕ × ℕ) WordError)
-    → 1 ≤ length words → (get_or words 0 other).now ≡ decimal r → result ≡ Err e → Reads number_words IsNumber (texts (take (length words - 1) (drop 1 words))) (Err e) → Reads pair_words IsPair (texts words) result
-pair_behind r small words other e result some is same =
+pub first_behind : {A B : Type 0} (text : A → List ℕ) (Is : A → Type 0) (spelling : B → List (List ℕ)) (Fits : B → Type 0) (x : A) → Is x → (words : List (Bor (List ℕ))) (other : Bor (List ℕ)) (e : WordError) (result : Result (A × B) WordError)
+    → 1 ≤ length words → (get_or words 0 other).now ≡ text x → result ≡ Err e → Reads spelling Fits (texts (take (length words - 1) (drop 1 words))) (Err e) → Reads (λ p. text p.0 ∷ spelling p.1) (λ p. Is p.0 × Fits p.1) (texts words) result
+first_behind text Is spelling Fits x fits words other e result some is same =
     let word = (get_or words 0 other).now in
-    wrong_behind pair_words IsPair number_words IsNumber words other
-    (λ more spells. ((r, spells.0), (small, spells.1), ap (λ w. w ∷ more) is ∙ ap (λ ws. decimal r ∷ ws) spells.2))
-    (λ more spells. (spells.0.1, spells.1.1, same_rest word (decimal spells.0.0) more (decimal spells.0.1 ∷ []) spells.2)) e result some same
-
--- ---- a transaction and operations
-
-pub order_behind : (t : TxnId) → IsTxn t → (words : List (Bor (List ℕ))) (other : Bor (List ℕ)) (e : WordError) (result : Result (TxnId × List Op) WordError)
-    → 1 ≤ length words → (get_or words 0 other).now ≡ txn_text t → result ≡ Err e → Reads op_words AreSaidOps (texts (take (length words - 1) (drop 1 words))) (Err e) → Reads order_words IsOrder (texts words) result
-order_behind t small words other e result some is same =
-    let word = (get_or words 0 other).now in
-    wrong_behind order_words IsOrder op_words AreSaidOps words other
-    (λ more spells. ((t, spells.0), (small, spells.1), ap (λ w. w ∷ more) is ∙ ap (λ ws. txn_text t ∷ ws) spells.2))
-    (λ more spells. (spells.0.1, spells.1.1, same_rest word (txn_text spells.0.0) more (map op_text spells.0.1) spells.2)) e result some same
+    wrong_behind (λ p. text p.0 ∷ spelling p.1) (λ p. Is p.0 × Fits p.1) spelling Fits words other
+    (λ more spells. ((x, spells.0), (fits, spells.1), ap (λ w. w ∷ more) is ∙ ap (λ ws. text x ∷ ws) spells.2))
+    (λ more spells. (spells.0.1, spells.1.1, same_rest word (text spells.0.0) more (spelling spells.0.1) spells.2)) e result some same
 
 -- ---- values
+
+pub no_epoch : Epoch
+no_epoch = record { loss = 0; number = 0 }
+
+pub IsEpoch-no_epoch : IsEpoch no_epoch
+unfolding no_epoch
+IsEpoch-no_epoch = (lit< tt, lit< tt)
 
 pub no_txn : TxnId
 no_txn = record { epoch = record { loss = 0; number = 0 }; n = 0 }

@@ -10,12 +10,14 @@ use Rattle.coll_model.specs.declared.contents.Contents.{Contents}
 use Rattle.coll_model.specs.declared.contents.Contents.TheVariants.{Dict, Queue}
 use Rattle.coll_model.specs.Effect.{State, at_key, folded}
 use Rattle.script_text.specs.declared.event.Call.{Call}
-use Rattle.script_text.specs.declared.event.Call.TheVariants.{Begin, Make, Get, Set, Commit}
+use Rattle.script_text.specs.declared.event.Call.TheVariants.{Begin, Make, Get, GetForUpdate, Set, Add, Delete, Commit, Abort}
 use Rattle.order_machine.specs.declared.observation.Observation.{Observation}
 use Rattle.order_machine.specs.declared.observation.Observation.TheVariants as says
 use Rattle.order_machine.specs.declared.reply.Reply.{Reply}
 use Rattle.order_machine.specs.Order.{state_at}
-use Rattle.order_machine.specs.Machine.{Machine, Role, Noted, Txn, replica, order_of, role_of, put_role, txn_of, put_txn, is_active, live_txn, ops_of}
+use Rattle.key_locks.specs.Grants.{Grant}
+use Rattle.order_machine.specs.Locking.{locks_at, against}
+use Rattle.order_machine.specs.Machine.{Machine, Role, Noted, Txn, replica, order_of, role_of, put_role, txn_of, put_txn, grants_of, is_active, live_txn, ops_of}
 
 -- an answer that logs nothing
 abbrev pub plain : Observation → Reply
@@ -43,13 +45,36 @@ set_reply name key value None = plain says.Absent
 set_reply name key value (Some (Queue values)) = plain says.WrongKind
 set_reply name key value (Some (Dict pairs)) = record { answer = says.Done; op = Some (ops.Put name key value) }
 
--- the answer at a state to a call that names a collection
+-- a value for a key that has none, and the end of one that is there
+abbrev pub added : List ℕ → List ℕ → List ℕ → Option (List ℕ) → Reply
+added name key value None = record { answer = says.True; op = Some (ops.Put name key value) }
+added name key value (Some present) = plain says.False
+
+abbrev pub add_reply : List ℕ → List ℕ → List ℕ → Option Contents → Reply
+add_reply name key value None = plain says.Absent
+add_reply name key value (Some (Queue values)) = plain says.WrongKind
+add_reply name key value (Some (Dict pairs)) = added name key value (at_key key pairs)
+
+abbrev pub deleted : List ℕ → List ℕ → Option (List ℕ) → Reply
+deleted name key None = plain says.False
+deleted name key (Some present) = record { answer = says.True; op = Some (ops.Del name key) }
+
+abbrev pub delete_reply : List ℕ → List ℕ → Option Contents → Reply
+delete_reply name key None = plain says.Absent
+delete_reply name key (Some (Queue values)) = plain says.WrongKind
+delete_reply name key (Some (Dict pairs)) = deleted name key (at_key key pairs)
+
+-- the answer at a state to a call that names a collection, locks apart
 abbrev pub reply_at : State → Call → Option Reply
 reply_at state Begin = None
 reply_at state (Make t name kind) = Some (make_reply name kind (at_key name state))
 reply_at state (Get t name key) = Some (get_reply key (at_key name state))
+reply_at state (GetForUpdate t name key) = Some (get_reply key (at_key name state))
 reply_at state (Set t name key value) = Some (set_reply name key value (at_key name state))
+reply_at state (Add t name key value) = Some (add_reply name key value (at_key name state))
+reply_at state (Delete t name key) = Some (delete_reply name key (at_key name state))
 reply_at state (Commit t) = None
+reply_at state (Abort t) = None
 
 -- ---- the answer
 
@@ -58,8 +83,26 @@ abbrev pub txn_named : Call → Option TxnId
 txn_named Begin = None
 txn_named (Make t name kind) = Some t
 txn_named (Get t name key) = Some t
+txn_named (GetForUpdate t name key) = Some t
 txn_named (Set t name key value) = Some t
+txn_named (Add t name key value) = Some t
+txn_named (Delete t name key) = Some t
 txn_named (Commit t) = Some t
+txn_named (Abort t) = Some t
+
+-- the answer to a call of a transaction that goes on, at what it sees, locks apart: an abort is done, and a commit has none of its own
+abbrev pub reply_to : State → Call → Option Reply
+reply_to state (Abort t) = Some (plain says.Done)
+reply_to state call = reply_at state call
+
+-- where another transaction stands against a lock that the call asks for, that one is named
+abbrev pub locked_or : Option TxnId → Option Reply → Option Reply
+locked_or None reply = reply
+locked_or (Some by) reply = Some (plain (says.Locked by))
+
+-- the answer to a call of a transaction that goes on, at what it sees and beside these grants
+abbrev pub live_reply : List Grant → State → TxnId → Call → Option Reply
+live_reply grants state t call = locked_or (against grants t (locks_at state call)) (reply_to state call)
 
 -- the transaction that the next begin of a primary starts: the begins of an epoch count from 1
 abbrev pub next_txn : Option Role → TxnId
@@ -69,14 +112,15 @@ next_txn role = option_map_or (λ held. record { epoch = held.epoch; n = held.be
 abbrev pub seen : Machine → ℕ → Txn → State
 seen m r x = folded (state_at (order_of m r) (replica m r).show) (ops_of x)
 
--- What an open, active primary answers: to a begin its next transaction; else by what the transaction sees, where it is
--- live there. The commit of a live transaction has no answer of its own.
+-- What an open, active primary answers: to a begin its next transaction; else by what the transaction sees and by the
+-- locks that others hold, where it is live there.
 abbrev pub served : Machine → ℕ → Call → Option Reply
 served m r call =
-    option_map_or (λ t. option_map_or (λ x. reply_at (seen m r x) call) (live_txn m r t) (Some (plain (says.Ended t))))
+    option_map_or (λ t. option_map_or (λ x. live_reply (grants_of m r) (seen m r x) t call) (live_txn m r t) (Some (plain (says.Ended t))))
     (txn_named call) (Some (plain (says.Txn (next_txn (role_of m r)))))
 
--- the one answer to a call at r, by the order of refusals: not open, not active, ended, and then those of the collection
+-- The one answer to a call at r, by the order of refusals: not open, not active, ended, and then the lock on the name, what
+-- the collection refuses, and the lock on the key.
 abbrev pub answer : Machine → ℕ → Call → Option Reply
 answer m r call =
     if not (replica m r).up then Some (plain (says.Down r))
@@ -115,6 +159,7 @@ abbrev pub is_refusal : Observation → Bool
 is_refusal (says.Down r) = true
 is_refusal (says.NotActive r) = true
 is_refusal (says.Ended t) = true
+is_refusal (says.Locked t) = true
 is_refusal _ = false
 
 -- whether a replay answers the call anew: it names a collection, and was answered by what stood there

@@ -1,7 +1,11 @@
 pub mod Contents
 pub mod Order
 pub mod Machine
+pub mod Locking
 pub mod Answers
+pub mod Protected
+pub mod OrderedStates
+pub mod OwnOperations
 pub mod Rows
 pub mod Legal
 pub mod Lines

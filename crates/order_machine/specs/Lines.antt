@@ -3,7 +3,7 @@ use Rattle.std.specs.Prelude.{◌≡◌, ◌≢◌, ℕ, ◌<◌, ◌^◌, All, 
 use Rattle.std.specs.List.{join_with_byte}
 use Rattle.coll_model.specs.declared.op.Op.{Op}
 use Rattle.coll_model.specs.declared.op.Op.TheVariants.{Make, Unmake, Put, Del, Push, Pop}
-use Rattle.script_text.specs.Sentence.{txn_text, kind_text, IsTxn}
+use Rattle.script_text.specs.Sentence.{epoch_text, txn_text, kind_text, IsEpoch, IsTxn}
 use Rattle.order_machine.specs.declared.observation.Observation.{Observation}
 use Rattle.order_machine.specs.declared.observation.Observation.TheVariants as says
 use Rattle.order_machine.specs.Legal.{Step}
@@ -34,6 +34,7 @@ words_of (says.Refused part) = codes "refused" ∷ decimal part ∷ []
 words_of (says.Down r) = codes "down" ∷ decimal r ∷ []
 words_of (says.NotActive r) = codes "notactive" ∷ decimal r ∷ []
 words_of (says.Ended t) = codes "ended" ∷ txn_text t ∷ []
+words_of (says.Locked t) = codes "locked" ∷ txn_text t ∷ []
 words_of says.True = codes "true" ∷ []
 words_of says.False = codes "false" ∷ []
 words_of (says.Value value) = codes "value" ∷ value ∷ []
@@ -42,6 +43,8 @@ words_of says.Absent = codes "absent" ∷ []
 words_of says.WrongKind = codes "wrongkind" ∷ []
 words_of (says.Fault r) = codes "fault" ∷ decimal r ∷ []
 words_of says.IgnoredUp = codes "ignored" ∷ codes "up" ∷ []
+words_of (says.IgnoredOldEpoch fence e) = codes "ignored" ∷ codes "oldepoch" ∷ epoch_text fence ∷ epoch_text e ∷ []
+words_of (says.Progress r e last) = codes "progress" ∷ decimal r ∷ epoch_text e ∷ decimal last ∷ []
 words_of (says.State r k) = codes "state" ∷ decimal r ∷ decimal k ∷ []
 words_of (says.Rows words) = codes "rows" ∷ words
 
@@ -83,6 +86,7 @@ IsPrintable (says.Refused part) = part < 2 ^ 64
 IsPrintable (says.Down r) = r < 2 ^ 64
 IsPrintable (says.NotActive r) = r < 2 ^ 64
 IsPrintable (says.Ended t) = IsTxn t
+IsPrintable (says.Locked t) = IsTxn t
 IsPrintable says.True = Unit {0}
 IsPrintable says.False = Unit {0}
 IsPrintable (says.Value value) = IsPlain value
@@ -91,6 +95,8 @@ IsPrintable says.Absent = Unit {0}
 IsPrintable says.WrongKind = Unit {0}
 IsPrintable (says.Fault r) = r < 2 ^ 64
 IsPrintable says.IgnoredUp = Unit {0}
+IsPrintable (says.IgnoredOldEpoch fence e) = IsEpoch fence × IsEpoch e
+IsPrintable (says.Progress r e last) = (r < 2 ^ 64) × IsEpoch e × (last < 2 ^ 64)
 IsPrintable (says.State r k) = (r < 2 ^ 64) × (k < 2 ^ 64)
 IsPrintable (says.Rows words) = All IsPlain words
 

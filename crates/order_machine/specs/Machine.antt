@@ -1,11 +1,15 @@
 -- The machine that every transcript is a run of: orders, what each replica shows, transactions, appointments.
-use Rattle.std.specs.Prelude.{ℕ, Bool, false, not, ◌&&◌, ◌==◌, if◌then◌else◌, List, [], ◌∷◌, filter_map, replicate, set, get_or, Option, None, option_and_then, find, length}
+use Rattle.std.specs.Prelude.{ℕ, ◌-◌, Bool, false, not, ◌&&◌, ◌==◌, if◌then◌else◌, List, [], ◌∷◌, map, filter_map, replicate, set, get_or, slice_get, Option, Some, None, option_and_then, find, length}
 use Rattle.std.specs.Option.{option_map_or}
 use Rattle.std.specs.List.{list_any, list_all}
 use Rattle.std.specs.Map.{lookup}
 use Rattle.rc_base.specs.declared.ids.Epoch.{Epoch}
 use Rattle.rc_base.specs.declared.ids.TxnId.{TxnId}
 use Rattle.coll_model.specs.declared.op.Op.{Op}
+use Rattle.key_locks.specs.Grants.{Grant}
+use Rattle.config_rule.specs.declared.answers.Answer.{Answer}
+use Rattle.config_rule.specs.declared.appointments.Appointed.{Appointed}
+use Rattle.config_rule.specs.Rule.{Known}
 use Rattle.script_text.specs.declared.event.Call.{Call}
 use Rattle.order_machine.specs.declared.observation.Observation.{Observation}
 use Rattle.rc_base.specs.Ids.{is_epoch, is_txn}
@@ -26,12 +30,13 @@ pub record Survey : Type 0 where
   pub faulted : Bool
 
 -- A replica: whether it is open; how many transactions of its order it shows, or showed last; the loss number that
--- names its order; its role; and the surveys that came to it.
+-- names its order; its role; who holds which lock there; and the surveys that came to it.
 pub record Replica : Type 0 where
   pub up : Bool
   pub show : ℕ
   pub loss : ℕ
   pub role : Option Role
+  pub grants : List Grant
   pub surveys : List Survey
 
 -- a client call with its answer, and the operation that it logged
@@ -60,7 +65,7 @@ pub record Appointment : Type 0 where
   pub was_active : Bool
 
 -- The orders by loss number; the acknowledged transactions; the nine replicas; the transactions, each with its newest
--- entry first; the appointments, the latest first; and the configuration last activated.
+-- entry first; the appointments, the latest last; the configuration last activated; and what replicas answered to surveys.
 pub record Machine : Type 0 where
   pub orders : List Order
   pub acknowledged : List TxnId
@@ -68,11 +73,12 @@ pub record Machine : Type 0 where
   pub txns : List (TxnId × Txn)
   pub appointments : List Appointment
   pub config : List ℕ
+  pub answers : List Answer
 
 -- ---- the start of a world
 
 abbrev pub never_opened : Replica
-never_opened = record { up = false; show = 0; loss = 0; role = None; surveys = [] }
+never_opened = record { up = false; show = 0; loss = 0; role = None; grants = []; surveys = [] }
 
 abbrev pub empty_machine : Machine
 empty_machine = record {
@@ -82,6 +88,7 @@ empty_machine = record {
   txns = [];
   appointments = [];
   config = [];
+  answers = [];
 }
 
 -- ---- reading and changing it
@@ -111,17 +118,38 @@ role_of m r = (replica m r).role
 abbrev pub put_role : Machine → ℕ → Option Role → Machine
 put_role m r new = put_replica m r (record (replica m r) { role = new })
 
+abbrev pub grants_of : Machine → ℕ → List Grant
+grants_of m r = (replica m r).grants
+
+abbrev pub put_grants : Machine → ℕ → List Grant → Machine
+put_grants m r new = put_replica m r (record (replica m r) { grants = new })
+
 -- nothing goes on at the replica any more
 abbrev pub ended_at : ℕ → List (TxnId × Txn) → List (TxnId × Txn)
 ended_at r [] = []
 ended_at r (entry ∷ txns) = (entry.0, if entry.1.home == r then record entry.1 { live = false } else entry.1) ∷ ended_at r txns
 
+-- the role of the replica ends, and with it what goes on there; its grants go
+abbrev pub without_role : Machine → ℕ → Machine
+without_role m r = record (put_replica m r (record (replica m r) { role = None; grants = [] })) { txns = ended_at r m.txns }
+
 -- the replica is closed: its role ends, and with it what goes on there; what it showed last is kept
 abbrev pub closed : Machine → ℕ → Machine
-closed m r = record (put_replica m r (record (replica m r) { up = false; role = None })) { txns = ended_at r m.txns }
+closed m r = record (put_replica m r (record (replica m r) { up = false; role = None; grants = [] })) { txns = ended_at r m.txns }
 
 abbrev pub appointment_of : Machine → Epoch → Option Appointment
 appointment_of m e = find (λ a. is_epoch e a.epoch) m.appointments
+
+-- the latest appointment, once there is one
+abbrev pub latest_of : Machine → Option Appointment
+latest_of m = slice_get m.appointments (length m.appointments - 1)
+
+-- what the rule of reconfiguration knows of an appointment, and of the machine
+abbrev pub as_appointed : Appointment → Appointed
+as_appointed a = record { epoch = a.epoch; primary = Some a.primary; pc = a.previous; cc = a.current; active = a.was_active; activated = false }
+
+abbrev pub known_of : Machine → Known
+known_of m = record { appointed = map as_appointed m.appointments; current = m.config; answers = m.answers }
 
 -- ---- tests
 

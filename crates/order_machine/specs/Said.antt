@@ -6,7 +6,7 @@ use Rattle.rc_base.specs.Names.{is_name}
 use Rattle.coll_model.specs.declared.op.Op.{Op}
 use Rattle.coll_model.specs.declared.op.Op.TheVariants.{Make, Unmake, Put, Del, Push, Pop}
 use Rattle.script_text.specs.Letters.{is_key_word, is_value_word}
-use Rattle.script_text.specs.Sentence.{IsTxn}
+use Rattle.script_text.specs.Sentence.{IsEpoch, IsTxn}
 use Rattle.order_machine.specs.declared.observation.Observation.{Observation}
 use Rattle.order_machine.specs.declared.observation.Observation.TheVariants as says
 use Rattle.order_machine.specs.Lines.{line_text}
@@ -45,6 +45,7 @@ IsSaid (says.Refused part) = part < 2 ^ 8
 IsSaid (says.Down r) = r < 9
 IsSaid (says.NotActive r) = r < 9
 IsSaid (says.Ended t) = IsTxn t
+IsSaid (says.Locked t) = IsTxn t
 IsSaid says.True = Unit {0}
 IsSaid says.False = Unit {0}
 IsSaid (says.Value value) = IsTrue (is_value_word value)
@@ -53,6 +54,8 @@ IsSaid says.Absent = Unit {0}
 IsSaid says.WrongKind = Unit {0}
 IsSaid (says.Fault r) = r < 9
 IsSaid says.IgnoredUp = Unit {0}
+IsSaid (says.IgnoredOldEpoch fence e) = IsEpoch fence × IsEpoch e
+IsSaid (says.Progress r e last) = (r < 9) × IsEpoch e × (last < 2 ^ 64)
 IsSaid (says.State r k) = (r < 9) × (k < 2 ^ 64)
 IsSaid (says.Rows words) = All IsRowWord words
 

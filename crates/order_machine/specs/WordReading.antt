@@ -1,10 +1,13 @@
 -- What a function reads of words, and the words behind a line's first.
 use Rattle.std.specs.Prelude.{◌≡◌, ◌<◌, ◌^◌, ℕ, List, [], ◌∷◌, ◌++◌, map, length, codes, decimal, All, IsTrue, Option, MatchOption, Result, Ok, Err}
+use Rattle.rc_base.specs.declared.ids.Epoch.{Epoch}
 use Rattle.rc_base.specs.declared.ids.TxnId.{TxnId}
 use Rattle.coll_model.specs.declared.op.Op.{Op}
 use Rattle.script_text.specs.Letters.{is_value_word}
-use Rattle.script_text.specs.Sentence.{txn_text, IsTxn}
+use Rattle.script_text.specs.Sentence.{epoch_text, txn_text, IsEpoch, IsTxn}
 use Rattle.order_machine.specs.declared.observation.Observation.{Observation}
+use Rattle.order_machine.specs.declared.cause.Cause.{Cause}
+use Rattle.order_machine.specs.declared.cause.Cause.TheVariants as causes
 use Rattle.order_machine.specs.declared.form.Form.{Form}
 use Rattle.order_machine.specs.declared.form.Form.TheVariants as forms
 use Rattle.order_machine.specs.declared.word_error.WordError.{WordError}
@@ -45,9 +48,6 @@ nothing_words u = []
 abbrev pub IsNothing : Unit {0} → Type 0
 IsNothing u = Unit {0}
 
-abbrev pub up_words : Unit {0} → List (List ℕ)
-up_words u = codes "up" ∷ []
-
 abbrev pub number_words : ℕ → List (List ℕ)
 number_words n = decimal n ∷ []
 
@@ -65,6 +65,27 @@ pair_words p = decimal p.0 ∷ decimal p.1 ∷ []
 
 abbrev pub IsPair : ℕ × ℕ → Type 0
 IsPair p = (p.0 < 9) × (p.1 < 2 ^ 64)
+
+abbrev pub epoch_words : Epoch → List (List ℕ)
+epoch_words e = epoch_text e ∷ []
+
+abbrev pub two_epoch_words : Epoch × Epoch → List (List ℕ)
+two_epoch_words p = epoch_text p.0 ∷ epoch_text p.1 ∷ []
+
+abbrev pub AreEpochs : Epoch × Epoch → Type 0
+AreEpochs p = IsEpoch p.0 × IsEpoch p.1
+
+abbrev pub end_words : Epoch × ℕ → List (List ℕ)
+end_words p = epoch_text p.0 ∷ decimal p.1 ∷ []
+
+abbrev pub IsEnd : Epoch × ℕ → Type 0
+IsEnd p = IsEpoch p.0 × (p.1 < 2 ^ 64)
+
+abbrev pub progress_words : ℕ × Epoch × ℕ → List (List ℕ)
+progress_words p = decimal p.0 ∷ epoch_text p.1 ∷ decimal p.2 ∷ []
+
+abbrev pub IsProgress : ℕ × Epoch × ℕ → Type 0
+IsProgress p = (p.0 < 9) × IsEpoch p.1 × (p.2 < 2 ^ 64)
 
 abbrev pub txn_words : TxnId → List (List ℕ)
 txn_words t = txn_text t ∷ []
@@ -111,6 +132,7 @@ form_word forms.Refused = codes "refused"
 form_word forms.Down = codes "down"
 form_word forms.NotActive = codes "notactive"
 form_word forms.Ended = codes "ended"
+form_word forms.Locked = codes "locked"
 form_word forms.True = codes "true"
 form_word forms.False = codes "false"
 form_word forms.Value = codes "value"
@@ -119,5 +141,11 @@ form_word forms.Absent = codes "absent"
 form_word forms.WrongKind = codes "wrongkind"
 form_word forms.Fault = codes "fault"
 form_word forms.Ignored = codes "ignored"
+form_word forms.Progress = codes "progress"
 form_word forms.State = codes "state"
 form_word forms.Rows = codes "rows"
+
+-- the word behind `ignored`, which tells the cause
+abbrev pub cause_word : Cause → List ℕ
+cause_word causes.Up = codes "up"
+cause_word causes.OldEpoch = codes "oldepoch"

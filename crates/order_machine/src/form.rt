@@ -2,7 +2,7 @@ ghost use Rattle.std.specs.Prelude.{◌≡◌, IfSome, IfNone};
 ghost use Rattle.order_machine.specs.declared.form.Form.{Form as FormValue};
 ghost use Rattle.order_machine.specs.WordReading.{form_word};
 
-/// The form of a line: one variant for each of `Observation`.
+/// The form of a line, which its first word tells: those that begin with `ignored` are one.
 #[derive(Clone, Copy, Debug, PartialEq, Eq)]
 pub(crate) enum Form {
     Up,
@@ -16,6 +16,7 @@ pub(crate) enum Form {
     Down,
     NotActive,
     Ended,
+    Locked,
     True,
     False,
     Value,
@@ -24,6 +25,7 @@ pub(crate) enum Form {
     WrongKind,
     Fault,
     Ignored,
+    Progress,
     State,
     Rows,
 }
@@ -45,6 +47,7 @@ pub(crate) fn form_of(word: &[u8]) -> Option<Form>
         word if word == b"down".as_slice() => Some(Form::Down),
         word if word == b"notactive".as_slice() => Some(Form::NotActive),
         word if word == b"ended".as_slice() => Some(Form::Ended),
+        word if word == b"locked".as_slice() => Some(Form::Locked),
         word if word == b"true".as_slice() => Some(Form::True),
         word if word == b"false".as_slice() => Some(Form::False),
         word if word == b"value".as_slice() => Some(Form::Value),
@@ -53,6 +56,7 @@ pub(crate) fn form_of(word: &[u8]) -> Option<Form>
         word if word == b"wrongkind".as_slice() => Some(Form::WrongKind),
         word if word == b"fault".as_slice() => Some(Form::Fault),
         word if word == b"ignored".as_slice() => Some(Form::Ignored),
+        word if word == b"progress".as_slice() => Some(Form::Progress),
         word if word == b"state".as_slice() => Some(Form::State),
         word if word == b"rows".as_slice() => Some(Form::Rows),
         _ => None,

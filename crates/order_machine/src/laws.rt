@@ -35,6 +35,11 @@ pub fn primaries_show_acknowledged()
     ensures { laws.InEachRun laws.PrimariesShowAcknowledged }
 {}
 
+/// At no replica does a transaction hold a lock beside one that another holds exclusively.
+pub fn locks_exclude()
+    ensures { laws.InEachRun laws.LocksExclude }
+{}
+
 /// Between events a primary that is alone has acknowledged all that was asked of it, and no replica shows a transaction
 /// whose client still waits.
 pub fn whole_runs_leave_nothing_open()
@@ -44,6 +49,12 @@ pub fn whole_runs_leave_nothing_open()
 /// A world of one replica commits a transaction: the laws of runs are about some.
 pub fn one_commit_is_whole()
     ensures { laws.OneCommitIsWhole }
+{}
+
+/// Two runs more: in one a transaction is aborted that had locked another one out, and in the other the primary is surveyed,
+/// appointed again and activated.
+pub fn abort_and_appointment_are_whole()
+    ensures { laws.AbortAndAppointmentAreWhole }
 {}
 
 /// A printed line has one reading: its number and its observation can be told from its text. So has each line that

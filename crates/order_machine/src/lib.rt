@@ -2,6 +2,7 @@
 //! machine that every run is a run of, and which lines each event may have.
 #![tactic(auto)]
 
+mod cause;
 mod form;
 mod laws;
 mod list_words;
@@ -16,9 +17,9 @@ mod word_error;
 mod word_list;
 
 pub use laws::{
-    acknowledged_are_ordered, asked_are_ordered, beginnings_are_shown, lines_read_once,
-    one_commit_is_whole, orders_grow, primaries_show_acknowledged, whole_runs_are_legal,
-    whole_runs_leave_nothing_open,
+    abort_and_appointment_are_whole, acknowledged_are_ordered, asked_are_ordered,
+    beginnings_are_shown, lines_read_once, locks_exclude, one_commit_is_whole, orders_grow,
+    primaries_show_acknowledged, whole_runs_are_legal, whole_runs_leave_nothing_open,
 };
 pub use observation::Observation;
 pub use observations::Observations;

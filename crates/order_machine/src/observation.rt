@@ -1,6 +1,6 @@
 use crate::word_list::Words;
 use coll_model::Ops;
-use rc_base::{Bytes, ReplicaId, TxnId};
+use rc_base::{Bytes, Epoch, ReplicaId, TxnId};
 
 /// A line of the transcript behind its event's number. There is one variant for each form of line that is built so
 /// far, with the line's words as its fields, in order.
@@ -28,6 +28,8 @@ pub enum Observation {
     NotActive(ReplicaId),
     /// `ended T`: T isn't live at the replica.
     Ended(TxnId),
+    /// `locked T`: T holds a lock that stands against the call.
+    Locked(TxnId),
     /// `true`: the call did what it was asked.
     True,
     /// `false`: it didn't, since that was so already.
@@ -44,6 +46,10 @@ pub enum Observation {
     Fault(ReplicaId),
     /// `ignored up`: the replica is open already.
     IgnoredUp,
+    /// `ignored oldepoch F E`: the replica refuses epochs below F, and E is one.
+    IgnoredOldEpoch(Epoch, Epoch),
+    /// `progress r E L`: the last record of r's log has the epoch E and the position L.
+    Progress(ReplicaId, Epoch, u64),
     /// `state r k`: r shows k collections, which follow.
     State(ReplicaId, u64),
     /// `rows words`: a collection with its kind and its items.

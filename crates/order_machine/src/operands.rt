@@ -1,11 +1,11 @@
 ghost use Rattle.std.specs.Prelude.{◌≡◌, ◌<◌, ◌^◌, ℕ, decimal, IfSome, IfNone};
 ghost use Rattle.script_text.specs.Reading.{texts};
-ghost use Rattle.script_text.specs.Sentence.{IsTxn};
-ghost use Rattle.order_machine.specs.WordReading.{Reads, nothing_words, IsNothing, up_words, number_words, IsReplica, IsPart, IsNumber, pair_words, IsPair, txn_words, value_words, IsValue};
+ghost use Rattle.script_text.specs.Sentence.{IsEpoch, IsTxn};
+ghost use Rattle.order_machine.specs.WordReading.{Reads, nothing_words, IsNothing, number_words, IsReplica, IsPart, IsNumber, pair_words, IsPair, epoch_words, two_epoch_words, AreEpochs, end_words, IsEnd, progress_words, IsProgress, txn_words, value_words, IsValue};
 
 use crate::word_error::{WordError, wrong};
-use rc_base::{Bytes, ReplicaId, TxnId};
-use script_text::words::{number, replica, txn, value_of};
+use rc_base::{Bytes, Epoch, ReplicaId, TxnId};
+use script_text::words::{epoch, number, replica, txn, value_of};
 use std::alloc::Global;
 
 // Nothing: there is no word.
@@ -17,19 +17,6 @@ pub(crate) fn nothing(words: &[&[u8]]) -> Result<(), WordError>
     } else {
         Err(wrong(words))
     }
-}
-
-// `up`.
-pub(crate) fn up_alone(words: &[&[u8]]) -> Result<(), WordError>
-    ensures { Reads up_words IsNothing (texts words.now) result }
-{
-    let [word, behind @ ..] = words else {
-        return Err(wrong(words));
-    };
-    if *word != b"up".as_slice() {
-        return Err(wrong(words));
-    }
-    nothing(behind)
 }
 
 // `R`, a replica.
@@ -94,6 +81,65 @@ pub(crate) fn replica_and_number(words: &[&[u8]]) -> Result<(ReplicaId, u64), Wo
     };
     let n = one_number(behind)?;
     Ok((r, n))
+}
+
+// `E`, an epoch.
+fn one_epoch(alloc: Global, words: &[&[u8]]) -> Result<Epoch, WordError>
+    ensures { Reads epoch_words IsEpoch (texts words.now) result }
+{
+    let [word, behind @ ..] = words else {
+        return Err(wrong(words));
+    };
+    let Some(e) = epoch(alloc, word)? else {
+        return Err(wrong(words));
+    };
+    nothing(behind)?;
+    Ok(e)
+}
+
+// `F E`, two epochs.
+pub(crate) fn two_epochs(alloc: Global, words: &[&[u8]]) -> Result<(Epoch, Epoch), WordError>
+    ensures { Reads two_epoch_words AreEpochs (texts words.now) result }
+{
+    let [word, behind @ ..] = words else {
+        return Err(wrong(words));
+    };
+    let Some(fence) = epoch(alloc, word)? else {
+        return Err(wrong(words));
+    };
+    let e = one_epoch(alloc, behind)?;
+    Ok((fence, e))
+}
+
+// `E L`, the epoch and the position of a log's last record.
+fn log_end(alloc: Global, words: &[&[u8]]) -> Result<(Epoch, u64), WordError>
+    ensures { Reads end_words IsEnd (texts words.now) result }
+{
+    let [word, behind @ ..] = words else {
+        return Err(wrong(words));
+    };
+    let Some(e) = epoch(alloc, word)? else {
+        return Err(wrong(words));
+    };
+    let last = one_number(behind)?;
+    Ok((e, last))
+}
+
+// `R E L`, a replica and the end of its log.
+pub(crate) fn replica_and_end(
+    alloc: Global,
+    words: &[&[u8]],
+) -> Result<(ReplicaId, Epoch, u64), WordError>
+    ensures { Reads progress_words IsProgress (texts words.now) result }
+{
+    let [word, behind @ ..] = words else {
+        return Err(wrong(words));
+    };
+    let Some(r) = replica(word) else {
+        return Err(wrong(words));
+    };
+    let (e, last) = log_end(alloc, behind)?;
+    Ok((r, e, last))
 }
 
 // `T`, a transaction.

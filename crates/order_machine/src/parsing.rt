@@ -1,17 +1,19 @@
-ghost use Rattle.std.specs.Prelude.{◌≡◌, ◌∷◌, ◌+◌, ◌≤◌, ℕ, length, min, IfOk, IsErrOf};
+ghost use Rattle.std.specs.Prelude.{◌≡◌, ◌∷◌, ◌+◌, ◌≤◌, ℕ, length, min, codes, IfOk, IsErrOf};
 ghost use Rattle.log_records.specs.declared.error.CodecError.TheVariants as errors;
 ghost use Rattle.script_text.specs.Reading.{texts};
 ghost use Rattle.order_machine.specs.Lines.{words_of};
 ghost use Rattle.order_machine.specs.declared.observation.Observation.{Observation as ObservationValue};
 ghost use Rattle.order_machine.specs.Said.{IsSaid, Tells};
 ghost use Rattle.order_machine.specs.ReadBack.{line_words, IsLine, place_behind, IsWrongAt, IsReadAs};
-ghost use Rattle.order_machine.specs.WordReading.{Reads, bare_words, form_word};
+ghost use Rattle.order_machine.specs.WordReading.{Reads, bare_words, form_word, cause_word};
 
+use crate::cause::{Cause, cause_of};
 use crate::form::{Form, form_of};
 use crate::list_words::{order, row_words};
 use crate::observation::Observation;
 use crate::operands::{
-    nothing, one_part, one_replica, one_txn, one_value, replica_and_number, up_alone,
+    nothing, one_part, one_replica, one_txn, one_value, replica_and_end, replica_and_number,
+    two_epochs,
 };
 use crate::word_error::{WordError, wrong};
 use log_records::CodecError;
@@ -105,6 +107,7 @@ fn of_form(alloc: Global, form: Form, words: &[&[u8]]) -> Result<Observation, Wo
         Form::Down => Observation::Down(one_replica(words)?),
         Form::NotActive => Observation::NotActive(one_replica(words)?),
         Form::Ended => Observation::Ended(one_txn(alloc, words)?),
+        Form::Locked => Observation::Locked(one_txn(alloc, words)?),
         Form::True => alone(words, Observation::True)?,
         Form::False => alone(words, Observation::False)?,
         Form::Value => Observation::Value(one_value(alloc, words)?),
@@ -112,9 +115,10 @@ fn of_form(alloc: Global, form: Form, words: &[&[u8]]) -> Result<Observation, Wo
         Form::Absent => alone(words, Observation::Absent)?,
         Form::WrongKind => alone(words, Observation::WrongKind)?,
         Form::Fault => Observation::Fault(one_replica(words)?),
-        Form::Ignored => {
-            up_alone(words)?;
-            Observation::IgnoredUp
+        Form::Ignored => ignored(alloc, words)?,
+        Form::Progress => {
+            let (r, e, last) = replica_and_end(alloc, words)?;
+            Observation::Progress(r, e, last)
         }
         Form::State => {
             let (r, k) = replica_and_number(words)?;
@@ -124,7 +128,33 @@ fn of_form(alloc: Global, form: Form, words: &[&[u8]]) -> Result<Observation, Wo
     })
 }
 
-// Nothing behind the form's word, which then is all of the observation.
+// The observation of `ignored` and the words behind it, the first of which tells the cause.
+fn ignored(alloc: Global, words: &[&[u8]]) -> Result<Observation, WordError>
+    ensures { Reads words_of IsSaid (codes "ignored" ∷ texts words.now) result }
+{
+    let [word, behind @ ..] = words else {
+        return Err(wrong(words));
+    };
+    let Some(cause) = cause_of(word) else {
+        return Err(wrong(words));
+    };
+    of_cause(alloc, cause, behind)
+}
+
+// The observation of `ignored`, a cause and the words behind it. Each cause is one arm.
+fn of_cause(alloc: Global, cause: Cause, words: &[&[u8]]) -> Result<Observation, WordError>
+    ensures { Reads words_of IsSaid (codes "ignored" ∷ cause_word cause ∷ texts words.now) result }
+{
+    Ok(match cause {
+        Cause::Up => alone(words, Observation::IgnoredUp)?,
+        Cause::OldEpoch => {
+            let (fence, e) = two_epochs(alloc, words)?;
+            Observation::IgnoredOldEpoch(fence, e)
+        }
+    })
+}
+
+// Nothing behind the words that tell the observation, which then are all of it.
 fn alone(words: &[&[u8]], said: Observation) -> Result<Observation, WordError>
     ensures { Reads bare_words (λ o. o ≡ said) (texts words.now) result }
 {

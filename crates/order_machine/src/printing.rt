@@ -1,12 +1,12 @@
 ghost use Rattle.std.specs.Prelude.{◌≡◌, ◌++◌, ◌∷◌, [], OnOk, OnErr, codes, decimal, flat_map};
 ghost use Rattle.std.specs.Io.{StartsWith};
-ghost use Rattle.script_text.specs.Sentence.{txn_text, kind_text};
+ghost use Rattle.script_text.specs.Sentence.{epoch_text, txn_text, kind_text};
 ghost use Rattle.order_machine.specs.Lines.{line_text, words_of, op_text};
 
 use crate::observation::Observation;
 use coll_model::{Kind, Op};
 use itoa::Buffer;
-use rc_base::{Bytes, NoMemory, ReplicaId, TxnId};
+use rc_base::{Bytes, Epoch, NoMemory, ReplicaId, TxnId};
 
 // what stands before each word of a line
 const SPACE: u8 = b' ';
@@ -68,6 +68,7 @@ fn write_words(observation: &Observation, out: &mut Vec<u8>) -> Result<(), NoMem
         Observation::Down(r) => write_with_replica(b"down", *r, out),
         Observation::NotActive(r) => write_with_replica(b"notactive", *r, out),
         Observation::Ended(t) => write_with_txn(b"ended", t, out),
+        Observation::Locked(t) => write_with_txn(b"locked", t, out),
         Observation::True => write_word(SPACE, b"true", out),
         Observation::False => write_word(SPACE, b"false", out),
         Observation::Value(value) => {
@@ -81,6 +82,17 @@ fn write_words(observation: &Observation, out: &mut Vec<u8>) -> Result<(), NoMem
         Observation::IgnoredUp => {
             write_word(SPACE, b"ignored", out)?;
             write_word(SPACE, b"up", out)
+        }
+        Observation::IgnoredOldEpoch(fence, e) => {
+            write_word(SPACE, b"ignored", out)?;
+            write_word(SPACE, b"oldepoch", out)?;
+            write_epoch(*fence, out)?;
+            write_epoch(*e, out)
+        }
+        Observation::Progress(r, e, last) => {
+            write_with_replica(b"progress", *r, out)?;
+            write_epoch(*e, out)?;
+            write_number(SPACE, *last, out)
         }
         Observation::State(r, k) => {
             write_with_replica(b"state", *r, out)?;
@@ -119,9 +131,17 @@ fn write_with_txn(word: &[u8], t: &TxnId, out: &mut Vec<u8>) -> Result<(), NoMem
     ensures kept { StartsWith out.new.items out.old.items }
 {
     write_word(SPACE, word, out)?;
-    write_number(SPACE, u64::from(t.epoch.loss), out)?;
-    write_number(STOP, u64::from(t.epoch.number), out)?;
+    write_epoch(t.epoch, out)?;
     write_number(STOP, t.n, out)
+}
+
+// an epoch behind a space
+fn write_epoch(e: Epoch, out: &mut Vec<u8>) -> Result<(), NoMemory>
+    ensures ok { OnOk result (out.new.items ≡ out.old.items ++ SPACE ∷ epoch_text e) }
+    ensures kept { StartsWith out.new.items out.old.items }
+{
+    write_number(SPACE, u64::from(e.loss), out)?;
+    write_number(STOP, u64::from(e.number), out)
 }
 
 // operations, each behind a space

@@ -16,6 +16,10 @@ fn txn(n: u64) -> TxnId {
     }
 }
 
+fn epoch(loss: u32, number: u32) -> Epoch {
+    Epoch { loss, number }
+}
+
 fn name(alloc: Global) -> Result<Name, NoMemory> {
     Name::from_slice(alloc, b"d")
 }
@@ -81,6 +85,8 @@ fn lines_of_answers(rt: HostRuntime) -> Result<(), Fail> {
     assert_eq!(rt; not_active.as_slice(), b"1000000 notactive 1".as_slice());
     let ended = line(rt.alloc(), Observation::Ended(txn(2)))?;
     assert_eq!(rt; ended.as_slice(), b"1000000 ended 0.1.2".as_slice());
+    let locked = line(rt.alloc(), Observation::Locked(txn(3)))?;
+    assert_eq!(rt; locked.as_slice(), b"1000000 locked 0.1.3".as_slice());
     Ok(())
 }
 
@@ -119,6 +125,27 @@ fn lines_of_stops_and_inspections(rt: HostRuntime) -> Result<(), Fail> {
 }
 
 #[test]
+fn lines_of_surveys(rt: HostRuntime) -> Result<(), Fail> {
+    let progress = line(
+        rt.alloc(),
+        Observation::Progress(replica(2)?, epoch(0, 4294967295), 18446744073709551615),
+    )?;
+    assert_eq!(rt;
+        progress.as_slice(),
+        b"1000000 progress 2 0.4294967295 18446744073709551615".as_slice()
+    );
+    let old = line(
+        rt.alloc(),
+        Observation::IgnoredOldEpoch(epoch(1, 0), epoch(0, 10)),
+    )?;
+    assert_eq!(rt;
+        old.as_slice(),
+        b"1000000 ignored oldepoch 1.0 0.10".as_slice()
+    );
+    Ok(())
+}
+
+#[test]
 fn lines_of_the_order(rt: HostRuntime) -> Result<(), Fail> {
     let bare = line(rt.alloc(), Observation::Order(txn(1), Ops::new(rt.alloc())))?;
     assert_eq!(rt; bare.as_slice(), b"1000000 order 0.1.1".as_slice());
@@ -150,6 +177,8 @@ fn beginnings_of_lines(rt: HostRuntime) {
         "1000000 committed 0.1.1",
         "10 state 8 1",
         "2 ignored up",
+        "2 ignored oldepoch 0.2 0.1",
+        "2 progress 0 0.1 9",
         "3 wrongkind",
     ];
     for line in lines {
@@ -185,7 +214,21 @@ fn places_of_wrong_words(rt: HostRuntime) {
         ("7 value", 7),
         ("7 value k=v", 8),
         ("7 rows d k=v=w", 9),
+        ("7 ignored", 9),
         ("7 ignored down", 10),
+        ("7 ignored up 0.1", 13),
+        ("7 ignored oldepoch", 18),
+        ("1 ignored oldepoch 0.2", 22),
+        ("1 ignored oldepoch 0.02 0.1", 19),
+        ("1 ignored oldepoch 0.2 0.1.1", 23),
+        ("1 ignored oldepoch 0.2 0.1 0.1", 27),
+        ("1 progress 0 0.1", 16),
+        ("1 progress 0 0 1", 13),
+        ("1 progress 9 0.1 1", 11),
+        ("1 progress 0 0.1 01", 17),
+        ("1 progress 0 0.1 1 1", 19),
+        ("1 locked 0.1", 9),
+        ("1 locked 0.1.1 0", 15),
         ("7 order 0.1.1 push:d:v pop:D", 23),
         ("7 order 0.1.1 make:d:list", 14),
     ];

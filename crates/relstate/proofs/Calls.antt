@@ -5,7 +5,7 @@ use Rattle.std.proofs.lemmas.Bool.{false≢true}
 use Rattle.log_records.specs.Spelling.{is_key, is_value}
 use Rattle.script_text.specs.Letters.{is_key_letter, is_key_word, is_value_word}
 use Rattle.script_text.specs.declared.event.Event.{Event}
-use Rattle.script_text.specs.declared.event.Event.TheVariants.{Boot, Client, Arm, Crash, Reboot, Inspect}
+use Rattle.script_text.specs.declared.event.Event.TheVariants.{Boot, Client, Arm, Crash, Reboot, Inspect, Survey, Appoint, Activate}
 use Rattle.script_text.specs.declared.event.Call.{Call}
 use Rattle.script_text.specs.declared.event.Call.TheVariants as calls
 use Rattle.script_text.specs.Sentence.{IsBuilt, IsBuiltCall}
@@ -31,8 +31,12 @@ call_fits : (call : Call) → IsBuiltCall call → CallFits call
 call_fits calls.Begin h = tt
 call_fits (calls.Make t name kind) h = h.1
 call_fits (calls.Get t name key) h = tt
+call_fits (calls.GetForUpdate t name key) h = tt
 call_fits (calls.Set t name key value) h = (h.1, key_fits key h.2, value_fits value h.3)
+call_fits (calls.Add t name key value) h = (h.1, key_fits key h.2, value_fits value h.3)
+call_fits (calls.Delete t name key) h = (h.1, key_fits key h.2)
 call_fits (calls.Commit t) h = tt
+call_fits (calls.Abort t) h = tt
 
 pub here : (event : Event) → IsBuilt event → IsHere event
 here (Boot p members) h = h
@@ -41,3 +45,6 @@ here (Arm r calls) h = (h.0, h.1)
 here (Crash r pick) h = h.0
 here (Reboot r) h = h
 here (Inspect r) h = h
+here (Survey r e) h = h
+here (Appoint e p members) h = h
+here (Activate e) h = h

@@ -11,7 +11,7 @@ use Rattle.rc_io.specs.Limits.{limit_in, limit_of}
 use Rattle.rc_io.specs.Reader.{Reading}
 use Rattle.rc_io.specs.Reading.{GivesLine}
 use Rattle.script_text.specs.declared.event.Event.{Event}
-use Rattle.script_text.specs.Sentence.{Spells, IsSkipped}
+use Rattle.script_text.specs.Sentence.{Spells, IsSkipped, IsBad}
 use Rattle.order_machine.specs.declared.observation.Observation.{Observation}
 use Rattle.order_machine.specs.Machine.{empty_machine}
 use Rattle.order_machine.specs.Legal.{moved_all}
@@ -21,12 +21,12 @@ use Rattle.world.specs.Kept.{Kept}
 use Rattle.world.specs.World.{StandsFor}
 use Rattle.relstate.specs.Fleet.{Keeps, faults_told}
 use Rattle.relstate.specs.Text.{bad_line_text, limit_line_text}
-use Rattle.relstate.specs.Ran.{Ending, AtEnd, AtBadLine, AtLimit, CutShort, Ends, IsBadAt, IsClean, IsStatusOf, Ran, closing}
+use Rattle.relstate.specs.Ran.{Ending, AtEnd, AtBadLine, AtLimit, CutShort, Ends, IsClean, IsStatusOf, Ran, closing}
 use Rattle.relstate.specs.Reached.{Done, Reached, HasEnded, Writes, status_of}
 use Rattle.relstate.specs.declared.lines.WriteError.{WriteError}
 use Rattle.relstate.specs.declared.lines.WriteError.TheVariants.{Failed, NoMemory}
 use Rattle.relstate.proofs.Disks.{Did, keeps, rose_none, rose_more, faults_more, marks_more}
-use Rattle.relstate.proofs.Steps.{step_of, skipped_more, spelled_more, all_within, whole_more, built_more, moved_more, written_more}
+use Rattle.relstate.proofs.Steps.{step_of, skipped_more, spelled_more, all_within, whole_more, moved_more, written_more}
 
 -- ---- the beginning
 
@@ -41,7 +41,6 @@ at_first {M} {images} {faults} {marks} {fleet} input held world s = record {
     within = tt;
     spelled = tt;
     whole = tt;
-    built = tt;
     stands = s;
     faulted = λ r. rose_none (faults_of faults fleet r);
     armed = λ r. refl;
@@ -53,13 +52,13 @@ at_first {M} {images} {faults} {marks} {fleet} input held world s = record {
 
 -- The run ends where the lines that are done are written, and what closes it is written whole or in part.
 pub closes : {M : Type 0} {images : M → Areas → Type 0} {faults : M → ℕ} {marks : M → Marks} {first was fleet : List M} (input held now : List ℕ) (before left : List (List ℕ)) (world : Kept) (holds : Option (List ℕ)) (ending : Ending) (status : ℕ) {T : Type 0} (result : Result T WriteError) →
-    (d : Done images faults marks input held before left first was world now) → ((n : ℕ) → Keeps images faults marks first fleet d.steps left n) → Ends ending before (moved_all empty_machine d.steps) left → IsStatusOf ending status →
+    (d : Done images faults marks input held before left first was world now) → ((n : ℕ) → Keeps images faults marks first fleet d.steps left n) → Ends ending before left → IsStatusOf ending status →
     Writes (closing ending (length before + 1)) (Some now) holds result → HasEnded images faults marks input held first fleet (status_of result status) holds
 closes input held now before left world holds ending status (Ok t) d k e s w =
     let text = transcript_of d.steps ++ closing ending (length before + 1) in (
       text,
       w ∙ ap Some (ap (λ xs. xs ++ closing ending (length before + 1)) d.text ∙ append_assoc held (transcript_of d.steps) (closing ending (length before + 1))),
-      record { before = before; left = left; steps = d.steps; ending = ending; lines = d.cut; within = d.within; spelled = d.spelled; whole = d.whole; built = d.built; ended = e; text = inl (s, refl) },
+      record { before = before; left = left; steps = d.steps; ending = ending; lines = d.cut; within = d.within; spelled = d.spelled; whole = d.whole; ended = e; text = inl (s, refl) },
       k status,
     )
 closes input held now before left world holds ending status (Err Failed) d k e s w =
@@ -76,7 +75,6 @@ closes input held now before left world holds ending status (Err Failed) d k e s
         within = d.within;
         spelled = d.spelled;
         whole = d.whole;
-        built = d.built;
         ended = e;
         text = inr (refl, (drop w.0 last, append_assoc (transcript_of d.steps) part (drop w.0 last) ∙ ap (λ xs. transcript_of d.steps ++ xs) (take-append-drop w.0 last)));
       },
@@ -94,7 +92,6 @@ closes input held now before left world holds ending status (Err NoMemory) d k e
     within = d.within;
     spelled = d.spelled;
     whole = d.whole;
-    built = d.built;
     ended = tt;
     text = inl (inr refl, sym (append-nil (transcript_of d.steps)));
   },
@@ -103,7 +100,7 @@ closes input held now before left world holds ending status (Err NoMemory) d k e
 
 -- the run ends with nothing more to write
 pub stops : {M : Type 0} {images : M → Areas → Type 0} {faults : M → ℕ} {marks : M → Marks} {first was fleet : List M} (input held now : List ℕ) (before left : List (List ℕ)) (world : Kept) (holds : Option (List ℕ)) (ending : Ending) (status : ℕ) →
-    (d : Done images faults marks input held before left first was world now) → Keeps images faults marks first fleet d.steps left status → Ends ending before (moved_all empty_machine d.steps) left → IsStatusOf ending status → closing ending (length before + 1) ≡ [] →
+    (d : Done images faults marks input held before left first was world now) → Keeps images faults marks first fleet d.steps left status → Ends ending before left → IsStatusOf ending status → closing ending (length before + 1) ≡ [] →
     holds ≡ Some now → HasEnded images faults marks input held first fleet status holds
 stops input held now before left world holds ending status d k e s c h = (
   transcript_of d.steps,
@@ -117,7 +114,6 @@ stops input held now before left world holds ending status d k e s c h = (
     within = d.within;
     spelled = d.spelled;
     whole = d.whole;
-    built = d.built;
     ended = e;
     text = inl (s, sym (ap (λ xs. transcript_of d.steps ++ xs) c ∙ append-nil (transcript_of d.steps)));
   },
@@ -135,7 +131,6 @@ after_skipped input held now before left raw world d l s = record {
   within = all_within before raw d.within l;
   spelled = skipped_more 1 before d.steps raw d.spelled s;
   whole = d.whole;
-  built = d.built;
   stands = d.stands;
   faulted = d.faulted;
   armed = d.armed;
@@ -155,7 +150,6 @@ after_event {M} {images} {faults} {marks} {first} {was} {fleet} input held now n
       within = all_within before raw d.within l;
       spelled = spelled_more 1 before d.steps raw s d.spelled (omega arith) spells;
       whole = whole_more [] empty_machine d.steps s d.whole done.0;
-      built = built_more empty_machine d.steps s d.built done.2;
       stands = subst (StandsFor new (images_of images fleet 0)) (sym (moved_more empty_machine d.steps s)) done.1;
       faulted = λ r.
           subst (λ n. RoseBy n (faults_of faults first r) (faults_of faults fleet r)) (sym (faults_more r d.steps s))
@@ -183,7 +177,6 @@ event_cut_off {M} {images} {faults} {marks} {first} {was} {fleet} input held now
         within = all.within;
         spelled = all.spelled;
         whole = all.whole;
-        built = all.built;
         ended = tt;
         text = inr (
           refl,
@@ -209,7 +202,6 @@ at_line input held ahead ahead' now old new world text r g = record {
   within = r.done.within;
   spelled = r.done.spelled;
   whole = r.done.whole;
-  built = r.done.built;
   stands = r.done.stands;
   faulted = r.done.faulted;
   armed = r.done.armed;
@@ -236,7 +228,7 @@ next_reached input held ahead ahead' now now' old new world world' text r g n d 
 
 -- the run ends at a bad line
 pub ends_at_bad_line : {M : Type 0} {images : M → Areas → Type 0} {faults : M → ℕ} {marks : M → Marks} {first was fleet : List M} (input held now : List ℕ) (before left : List (List ℕ)) (raw : List ℕ) (world : Kept) (old holds : Option (List ℕ)) (number status : ℕ) {T : Type 0} (result : Result T WriteError) →
-    (d : Done images faults marks input held before (raw ∷ left) first was world now) → ((n : ℕ) → Keeps images faults marks first fleet d.steps (raw ∷ left) n) → IsBadAt (moved_all empty_machine d.steps) (raw ∷ left) → number ≡ length before + 1 → old ≡ Some now →
+    (d : Done images faults marks input held before (raw ∷ left) first was world now) → ((n : ℕ) → Keeps images faults marks first fleet d.steps (raw ∷ left) n) → IsBad (line_text raw) → number ≡ length before + 1 → old ≡ Some now →
     Writes (bad_line_text number) old holds result → status ≡ status_of result 3 → HasEnded images faults marks input held first fleet status holds
 ends_at_bad_line {M} {images} {faults} {marks} {first} {was} {fleet} input held now before left raw world old holds number status {T} result d k bad at o w s =
     let P : ℕ → Type 0 = λ n. HasEnded images faults marks input held first fleet n holds in
@@ -259,7 +251,7 @@ pub nothing_done : {M : Type 0} {images : M → Areas → Type 0} {faults : M �
 nothing_done {M} {images} {faults} {marks} {fleet} input held holds h = (
   [],
   h ∙ ap Some (sym (append-nil held)),
-  record { before = []; left = raw_lines input; steps = []; ending = CutShort; lines = refl; within = tt; spelled = tt; whole = tt; built = tt; ended = tt; text = inl (inr refl, refl) },
+  record { before = []; left = raw_lines input; steps = []; ending = CutShort; lines = refl; within = tt; spelled = tt; whole = tt; ended = tt; text = inl (inr refl, refl) },
   record { disks = λ booted. absurd (false≢true booted); faulted = λ r. rose_none (faults_of faults fleet r); armed = inl (λ r. refl) },
 )
 
@@ -269,7 +261,7 @@ nothing_done {M} {images} {faults} {marks} {fleet} input held holds h = (
 pub complete : (input : List ℕ) (status : ℕ) (written : List ℕ) → Ran input status written → IsClean input → (status ≡ 4 → ⊥) → (status ≡ 5 → ⊥) → (status ≡ 0) ⊎ (status ≡ 8)
 complete input status written r clean source sink = by_text r.text
   where
-    at : (ending : Ending) → Ends ending r.before (moved_all empty_machine r.steps) r.left → IsStatusOf ending status → (status ≡ 0) ⊎ (status ≡ 8)
+    at : (ending : Ending) → Ends ending r.before r.left → IsStatusOf ending status → (status ≡ 0) ⊎ (status ≡ 8)
     at AtEnd e s = inl s
     at AtBadLine e s = absurd ((clean r.before r.left r.lines).1 r.steps r.spelled r.whole e)
     at (AtLimit which) e s = absurd (none-some which (sym (clean r.before r.left r.lines).0 ∙ e))

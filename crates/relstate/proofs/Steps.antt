@@ -9,10 +9,9 @@ use Rattle.script_text.specs.declared.event.Event.{Event}
 use Rattle.script_text.specs.Sentence.{Spells, IsSkipped}
 use Rattle.order_machine.specs.declared.observation.Observation.{Observation}
 use Rattle.order_machine.specs.Machine.{Machine}
-use Rattle.order_machine.specs.Rows.{IsUnbuilt}
 use Rattle.order_machine.specs.Legal.{Step, Filter, AreWhole, IsWhole, moved, moved_all}
 use Rattle.order_machine.specs.Lines.{lines_text, transcript_of}
-use Rattle.relstate.specs.Script.{AreSteps, AreWithin, AreBuilt}
+use Rattle.relstate.specs.Script.{AreSteps, AreWithin}
 
 abbrev pub step_of : ℕ → Event → List Observation → Step
 step_of number event lines = record { number = number; event = event; lines = lines }
@@ -48,10 +47,6 @@ spelled_more n (r ∷ rs) (x ∷ xs) raw s (inr a) e h = inr (a.0, a.1, spelled_
 pub whole_more : (filters : List Filter) (m : Machine) (steps : List Step) (s : Step) → AreWhole filters m steps → IsWhole (moved_all m steps) s.event s.lines → AreWhole filters m (steps ++ s ∷ [])
 whole_more filters m [] s a w = (w, tt)
 whole_more filters m (x ∷ xs) s a w = (a.0, whole_more filters (moved m x.event x.lines) xs s a.1 w)
-
-pub built_more : (m : Machine) (steps : List Step) (s : Step) → AreBuilt m steps → (IsUnbuilt (moved_all m steps) s.event → ⊥) → AreBuilt m (steps ++ s ∷ [])
-built_more m [] s a b = (b, tt)
-built_more m (x ∷ xs) s a b = (a.0, built_more (moved m x.event x.lines) xs s a.1 b)
 
 -- a line more that reaches no limit
 within_more : (lines given : ℕ) (raws : List (List ℕ)) (raw : List ℕ) → AreWithin lines given raws → limit_in (lines + length raws) (given + sum_by length raws) raw ≡ None → AreWithin lines given (raws ++ raw ∷ [])

@@ -3,14 +3,12 @@ use Rattle.std.specs.Prelude.{◌≡◌, ℕ, ◌+◌, List, [], ◌∷◌, ◌+
 use Rattle.rc_base.specs.declared.limit_name.LimitName.{LimitName}
 use Rattle.rc_io.specs.Lines.{raw_lines, line_text}
 use Rattle.rc_io.specs.Limits.{limit_of}
-use Rattle.script_text.specs.declared.event.Event.{Event}
-use Rattle.script_text.specs.Sentence.{Spells, IsBad}
-use Rattle.order_machine.specs.Machine.{Machine, empty_machine}
-use Rattle.order_machine.specs.Rows.{IsUnbuilt}
-use Rattle.order_machine.specs.Legal.{Step, AreWhole, moved_all}
+use Rattle.script_text.specs.Sentence.{IsBad}
+use Rattle.order_machine.specs.Machine.{empty_machine}
+use Rattle.order_machine.specs.Legal.{Step, AreWhole}
 use Rattle.order_machine.specs.Lines.{transcript_of}
 use Rattle.relstate.specs.Text.{bad_line_text, limit_line_text}
-use Rattle.relstate.specs.Script.{AreSteps, AreWithin, AreBuilt}
+use Rattle.relstate.specs.Script.{AreSteps, AreWithin}
 
 -- Why no more lines are done: none is left; the next one is bad; a limit is reached in it; or the run is cut short
 -- there, by a fault or by want of memory.
@@ -20,17 +18,17 @@ pub data Ending : Type 0 where
   AtLimit : (which : LimitName) → Ending
   CutShort : Ending
 
--- a bad line is no sentence, or its event waits for a later version at the machine as it is there
-abbrev pub IsBadAt : Machine → List (List ℕ) → Type 0
-IsBadAt m [] = ⊥
-IsBadAt m (raw ∷ raws) = IsBad (line_text raw) ⊎ ((event : Event) × Spells (line_text raw) event × IsUnbuilt m event)
+-- the first of these lines is bad
+abbrev pub BeginsBad : List (List ℕ) → Type 0
+BeginsBad [] = ⊥
+BeginsBad (raw ∷ raws) = IsBad (line_text raw)
 
 -- the ending has its cause in the lines that are left, behind these
-abbrev pub Ends : Ending → List (List ℕ) → Machine → List (List ℕ) → Type 0
-Ends AtEnd before m left = left ≡ []
-Ends AtBadLine before m left = IsBadAt m left
-Ends (AtLimit which) before m left = limit_of (length before) (sum_by length before) left ≡ Some which
-Ends CutShort before m left = Unit {0}
+abbrev pub Ends : Ending → List (List ℕ) → List (List ℕ) → Type 0
+Ends AtEnd before left = left ≡ []
+Ends AtBadLine before left = BeginsBad left
+Ends (AtLimit which) before left = limit_of (length before) (sum_by length before) left ≡ Some which
+Ends CutShort before left = Unit {0}
 
 -- what is written behind the lines of the events; the line has this number
 abbrev pub closing : Ending → ℕ → List ℕ
@@ -50,7 +48,7 @@ IsStatusOf CutShort status = (status ≡ 4) ⊎ (status ≡ 8)
 abbrev pub Begins : List ℕ → List ℕ → Type 0
 Begins part text = (more : List ℕ) × (part ++ more ≡ text)
 
--- The first lines of the input are done: they reach no limit, and are skipped, or are built events with all of their
+-- The first lines of the input are done: they reach no limit, and are skipped, or are events with all of their
 -- lines, which are those of one run of the machine from its start. The ending has its cause in what is left. All of the
 -- text is written, or, with status 5, the first bytes of it.
 pub record Ran (input : List ℕ) (status : ℕ) (written : List ℕ) : Type 0 where
@@ -62,8 +60,7 @@ pub record Ran (input : List ℕ) (status : ℕ) (written : List ℕ) : Type 0 w
   pub within : AreWithin 0 0 before
   pub spelled : AreSteps 1 before steps
   pub whole : AreWhole [] empty_machine steps
-  pub built : AreBuilt empty_machine steps
-  pub ended : Ends ending before (moved_all empty_machine steps) left
+  pub ended : Ends ending before left
   pub text : let all = transcript_of steps ++ closing ending (length before + 1) in
       (IsStatusOf ending status × (written ≡ all)) ⊎ ((status ≡ 5) × Begins written all)
 
@@ -71,4 +68,4 @@ pub record Ran (input : List ℕ) (status : ℕ) (written : List ℕ) : Type 0 w
 abbrev pub IsClean : List ℕ → Type 0
 IsClean input =
     (before left : List (List ℕ)) → raw_lines input ≡ before ++ left → (limit_of (length before) (sum_by length before) left ≡ None)
-    × ((steps : List Step) → AreSteps 1 before steps → AreWhole [] empty_machine steps → IsBadAt (moved_all empty_machine steps) left → ⊥)
+    × ((steps : List Step) → AreSteps 1 before steps → AreWhole [] empty_machine steps → BeginsBad left → ⊥)

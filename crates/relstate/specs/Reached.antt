@@ -11,7 +11,7 @@ use Rattle.world.specs.Fleet.{images_of, faults_of, marks_of, RoseBy}
 use Rattle.world.specs.Kept.{Kept}
 use Rattle.world.specs.World.{StandsFor}
 use Rattle.relstate.specs.Fleet.{faults_told, AreTold, Keeps}
-use Rattle.relstate.specs.Script.{AreSteps, AreWithin, AreBuilt}
+use Rattle.relstate.specs.Script.{AreSteps, AreWithin}
 use Rattle.relstate.specs.Ran.{Ran}
 use Rattle.relstate.specs.declared.lines.WriteError.{WriteError}
 use Rattle.relstate.specs.declared.lines.WriteError.TheVariants.{Failed, NoMemory}
@@ -24,7 +24,6 @@ pub record Done {M : Type 0} (images : M → Areas → Type 0) (faults : M → �
   pub within : AreWithin 0 0 before
   pub spelled : AreSteps 1 before steps
   pub whole : AreWhole [] empty_machine steps
-  pub built : AreBuilt empty_machine steps
   pub stands : StandsFor world (images_of images fleet 0) (moved_all empty_machine steps)
   pub faulted : (r : ℕ) → RoseBy (faults_told r steps) (faults_of faults first r) (faults_of faults fleet r)
   pub armed : AreTold steps (marks_of marks first) (marks_of marks fleet)

@@ -3,9 +3,7 @@ use Rattle.std.specs.Prelude.{◌≡◌, ℕ, ◌+◌, List, [], ◌∷◌, None
 use Rattle.rc_io.specs.Lines.{line_text}
 use Rattle.rc_io.specs.Limits.{limit_in}
 use Rattle.script_text.specs.Sentence.{Spells, IsSkipped}
-use Rattle.order_machine.specs.Machine.{Machine}
-use Rattle.order_machine.specs.Rows.{IsUnbuilt}
-use Rattle.order_machine.specs.Legal.{Step, moved}
+use Rattle.order_machine.specs.Legal.{Step}
 
 -- The steps are the events of these lines, the first of which has this number: each line is skipped, or it spells the
 -- event of a step with its number.
@@ -21,8 +19,3 @@ AreSteps number (raw ∷ raws) (s ∷ steps) =
 abbrev pub AreWithin : ℕ → ℕ → List (List ℕ) → Type 0
 AreWithin lines given [] = Unit {0}
 AreWithin lines given (raw ∷ raws) = (limit_in lines given raw ≡ None) × AreWithin (lines + 1) (given + length raw) raws
-
--- none of the events waits for a later version at its machine
-abbrev pub AreBuilt : Machine → List Step → Type 0
-AreBuilt m [] = Unit {0}
-AreBuilt m (s ∷ steps) = (IsUnbuilt m s.event → ⊥) × AreBuilt (moved m s.event s.lines) steps

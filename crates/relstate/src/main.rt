@@ -17,6 +17,8 @@ use std::env;
 use std::process::ExitCode;
 
 #[cfg(test)]
+mod row_tests;
+#[cfg(test)]
 mod tests;
 
 // The status of a run for which memory is wanted before it begins.

@@ -210,9 +210,6 @@ fn do_event<K: Sink, M: CrashDisk>(
 {
     let lines = match world.event(fleet, number, event) {
         Ok(lines) => lines,
-        Err(WorldError::Unbuilt { .. }) => {
-            return Some(ended(write_bad_line(alloc, sink, number), 3));
-        }
         Err(WorldError::Limit { .. }) => unreachable!(),
         Err(WorldError::NoMemory) => return Some(8),
     };

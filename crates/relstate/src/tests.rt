@@ -55,7 +55,7 @@ fn first_run(rt: HostRuntime) -> Result<(), Fail> {
 }
 
 // A run over sources and sinks that don't fail.
-fn answered(alloc: Global, script: &[u8]) -> Result<(u8, Vec<u8>), AllocError> {
+pub fn answered(alloc: Global, script: &[u8]) -> Result<(u8, Vec<u8>), AllocError> {
     ran(alloc, script, None, Vec::new(alloc))
 }
 
@@ -297,17 +297,17 @@ fn bad_lines(rt: HostRuntime) -> Result<(), Fail> {
         text.as_slice(),
         b"1 up 0\n1 view 0 0\n1 active 0\n1 ok\n2 stop 3\n".as_slice()
     );
-    // A second transaction beside a live one is not built.
+    // A sentence that is not built.
     let (status, text) = ran(
         alloc,
-        b"begin 0\nboot 0 0\nbegin 0\nbegin 0",
+        b"begin 0\nboot 0 0\nbegin 0\nbegin 0\nappoint 0.2 0 0",
         None,
         Vec::new(alloc),
     )?;
     assert_eq!(rt; status, 3);
     assert_eq!(rt;
         text.as_slice(),
-        b"1 refused 9\n2 up 0\n2 view 0 0\n2 active 0\n2 ok\n3 txn 0.1.1\n4 stop 3\n".as_slice()
+        b"1 refused 9\n2 up 0\n2 view 0 0\n2 active 0\n2 ok\n3 txn 0.1.1\n4 txn 0.1.2\n5 stop 3\n".as_slice()
     );
     Ok(())
 }

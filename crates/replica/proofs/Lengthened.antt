@@ -1,38 +1,45 @@
 -- What a step makes of the log and of the replica. Cited by the crates above.
-use Rattle.std.proofs.Common.{◌≡◌, ℕ, ◌+◌, ◌≤◌, ◌==◌, max, Bool, true, false, cond, List, [], ◌∷◌, ◌++◌, length, take, drop, map, Option, Some, None, refl, sym, ap, subst, ◌∙◌, append_assoc, arith}
-use Rattle.std.specs.Option.{option_map, option_map_or}
+use Rattle.std.proofs.Common.{◌≡◌, ℕ, zero, suc, ◌+◌, ◌≤◌, ◌==◌, max, Bool, true, false, cond, List, [], ◌∷◌, ◌++◌, length, take, drop, map, Option, Some, None, refl, sym, ap, subst, ◌∙◌, append_assoc, arith}
+use Rattle.std.specs.Option.{option_map_or, option_and_then}
 use Rattle.std.proofs.lemmas.List.{append-nil, length-append, take-append-le, take-append-drop}
 use Rattle.std.proofs.lemmas.Bool.{false≢true}
 use Rattle.std.proofs.lemmas.Bool.Decides.{nat_tests}
+use Rattle.std.proofs.lemmas.Option.{none-some}
+use Rattle.std.specs.Ordering.{nat_cmp}
+use Rattle.std.specs.Map.{remove_entry}
+use Rattle.std.specs.BTreeMap.{is_at}
+use Rattle.key_locks.specs.Grants.{released}
 use Rattle.rc_base.specs.declared.ids.Epoch.{Epoch}
 use Rattle.rc_base.specs.declared.ids.Lsn.{Lsn}
 use Rattle.rc_base.specs.declared.ids.TxnId.{TxnId}
-use Rattle.rc_base.specs.Ids.{is_txn}
+use Rattle.rc_base.specs.Ids.{epoch_lt, no_epoch}
 use Rattle.coll_model.specs.declared.op.Op.{Op}
 use Rattle.coll_model.specs.Effect.{State, folded}
 use Rattle.script_text.specs.declared.event.Call.{Call}
 use Rattle.script_text.specs.declared.event.Call.TheVariants as calls
-use Rattle.order_machine.specs.declared.observation.Observation.TheVariants as says
 use Rattle.order_machine.specs.declared.reply.Reply.{Reply}
-use Rattle.order_machine.specs.Answers.{plain, reply_at, txn_named}
+use Rattle.order_machine.specs.Locking.{locks_at, taken}
+use Rattle.order_machine.specs.Answers.{txn_named, live_reply}
 use Rattle.log_records.specs.declared.record.Record.{Record}
 use Rattle.log_records.specs.declared.record.Record.TheVariants.{Begin, Operation, End, Barrier, EpochStart}
 use Rattle.log_records.specs.declared.record.Physical.{Physical}
-use Rattle.log_records.specs.declared.record.Physical.TheVariants.{Logical}
+use Rattle.log_records.specs.declared.record.Physical.TheVariants.{Logical, Fence}
 use Rattle.txn_table.specs.declared.committed.Committed.{Committed}
-use Rattle.txn_table.specs.declared.known.Known.{Known}
-use Rattle.txn_table.specs.Commits.{with_txn}
+use Rattle.txn_front.specs.Front as front
+use Rattle.txn_front.specs.Front.{Fronted, Going, going_of, begun, operated, nothing}
 use Rattle.log_store.specs.declared.kept.Kept.{Kept}
 use Rattle.log_store.specs.Epochs.{later}
-use Rattle.log_store.specs.Growth.{MayCome, after_one, after, GoesOn}
-use Rattle.log_store.specs.Log.{Items, known_in, commits_in}
-use Rattle.replica.specs.declared.going.Going.{Going}
+use Rattle.log_store.specs.Growth.{after_one, after}
+use Rattle.log_store.specs.Log.{Items, commits_in}
+use Rattle.replica.specs.declared.role.Role.TheVariants.{Other}
 use Rattle.replica.specs.declared.step.StepEvent.{StepEvent}
 use Rattle.replica.specs.declared.step.StepEvent.TheVariants as steps
-use Rattle.replica.specs.Open.{Open, stable_told, stable_in, shown_in, IsKnownAs, GoesOnIn, IsGoing, IsPrimary, HasRole, ops_going, AgreesWith}
-use Rattle.replica.specs.Step.{is_active, goes_on, served, reply, begin_due, prev_of, logged_op, logged_reply, logged, epoch_in, placed, block, behind, began, with_op, operated, committed, replied, called, next_txn, stepped, commit_of, committed_by, CallFits, IsAlone, MayStep}
-use Rattle.replica.proofs.OneMore.{stable_push, commits_more, commits_few, later_twice}
-use Rattle.replica.proofs.OneRecord.{active_primary, item, longer, begun_at, commit, Grows, begin_grows, operation_grows, end_grows, barrier_grows, epoch_starts}
+use Rattle.replica.specs.Open.{Open, stable_told, stable_in, shown_in, AgreesWith}
+use Rattle.replica.specs.Step.{is_active, reply, begin_due, prev_of, logged_op, logged_abort, logged_call, logged_by, logged, going_in, epoch_in, placed, fences, block, behind, lengthened, noted, answered, surveyed, stepped, committed_by, MayStep}
+use Rattle.replica.proofs.OneMore.{stable_push, commits_more, commits_few}
+use Rattle.replica.proofs.OneRecord.{barrier_grows, epoch_starts}
+use Rattle.txn_front.proofs.Fronts.{IsOver-nothing}
+use Rattle.replica.proofs.Calls.{StepsTo, rests, alone, call_steps}
 
 -- ---- commits of a log
 
@@ -53,197 +60,82 @@ records_placed v last epoch (body ∷ bodies) =
     records_placed (after_one v (Logical (record { 0 = last + 1 }) epoch body)) (last + 1) epoch bodies
     ∙ append_assoc v.records ((epoch, body) ∷ []) (map (λ b. (epoch, b)) bodies)
 
+-- a survey leaves the records
+pub records_surveyed : (v : Kept) (r : Open) (epoch : Epoch) → (after v (block r (steps.Survey epoch))).records ≡ v.records
+records_surveyed v r epoch = elim (epoch_lt r.fence epoch) as (λ b. (after v (cond b (Fence epoch ∷ []) [] ++ [])).records ≡ v.records) [ true ↦ refl | false ↦ refl ]
+
 pub records_after : (v : Kept) (r : Open) (event : StepEvent) → (after v (block r event)).records ≡ v.records ++ map (λ body. (epoch_in r event, body)) (logged r event)
-records_after v r event = records_placed v r.last.0 (epoch_in r event) (logged r event)
+records_after v r (steps.Client call) = records_placed v r.last.0 r.epoch (logged_by r call)
+records_after v r (steps.Survey epoch) = records_surveyed v r epoch ∙ sym (append-nil v.records)
+records_after v r (steps.Start epoch) = records_placed v r.last.0 epoch (EpochStart epoch ∷ [])
+records_after v r steps.Barrier = records_placed v r.last.0 r.epoch (Barrier r.stable ∷ [])
 
 identity_placed : (v : Kept) (last : ℕ) (epoch : Epoch) (bodies : List Record) → (after v (placed last epoch bodies)).identity ≡ v.identity
 identity_placed v last epoch [] = refl
 identity_placed v last epoch (body ∷ bodies) = identity_placed (after_one v (Logical (record { 0 = last + 1 }) epoch body)) (last + 1) epoch bodies
 
 pub identity_after : (v : Kept) (r : Open) (event : StepEvent) → (after v (block r event)).identity ≡ v.identity
-identity_after v r event = identity_placed v r.last.0 (epoch_in r event) (logged r event)
+identity_after v r (steps.Client call) = identity_placed v r.last.0 r.epoch (logged_by r call)
+identity_after v r (steps.Survey epoch) = elim (epoch_lt r.fence epoch) as (λ b. (after v (cond b (Fence epoch ∷ []) [] ++ [])).identity ≡ v.identity) [ true ↦ refl | false ↦ refl ]
+identity_after v r (steps.Start epoch) = identity_placed v r.last.0 epoch (EpochStart epoch ∷ [])
+identity_after v r steps.Barrier = identity_placed v r.last.0 r.epoch (Barrier r.stable ∷ [])
 
-due_few : (going : Going) → length (begin_due going) ≤ 1
-due_few going = elim (going.last.0 == 0) as (λ b. length (cond b (Begin going.txn ∷ []) []) ≤ 1) [ true ↦ omega arith | false ↦ omega arith ]
+due_few : (t : TxnId) (going : Going) → length (begin_due t going) ≤ 1
+due_few t going = elim (going.last.0 == 0) as (λ b. length (cond b (Begin t ∷ []) []) ≤ 1) [ true ↦ omega arith | false ↦ omega arith ]
 
-reply_few : (last : Lsn) (live : Option Going) (o : Option Reply) → length (logged_reply last live o) ≤ 2
-reply_few last None o = omega arith
-reply_few last (Some going) None = omega (arith, length-append (begin_due going) (End going.txn (prev_of last going) true ∷ []), due_few going)
-reply_few last (Some going) (Some told) = by told.op
+op_few : (last : Lsn) (t : TxnId) (going : Going) (op : Option Op) → length (logged_op last t going op) ≤ 2
+op_few last t going None = omega arith
+op_few last t going (Some op) = omega (arith, length-append (begin_due t going) (Operation t (prev_of last going) op ∷ []), due_few t going)
+
+commit_few : (last : Lsn) (t : TxnId) (going : Going) → length (begin_due t going ++ End t (prev_of last going) true ∷ []) ≤ 2
+commit_few last t going = omega (arith, length-append (begin_due t going) (End t (prev_of last going) true ∷ []), due_few t going)
+
+call_few : (last : Lsn) (t : TxnId) (going : Going) (call : Call) (told : Option Reply) → length (logged_call last t going call told) ≤ 2
+call_few last t going calls.Begin told = op_few last t going (option_and_then (λ reply. reply.op) told)
+call_few last t going (calls.Make u name kind) told = op_few last t going (option_and_then (λ reply. reply.op) told)
+call_few last t going (calls.Get u name key) told = op_few last t going (option_and_then (λ reply. reply.op) told)
+call_few last t going (calls.GetForUpdate u name key) told = op_few last t going (option_and_then (λ reply. reply.op) told)
+call_few last t going (calls.Set u name key value) told = op_few last t going (option_and_then (λ reply. reply.op) told)
+call_few last t going (calls.Add u name key value) told = op_few last t going (option_and_then (λ reply. reply.op) told)
+call_few last t going (calls.Delete u name key) told = op_few last t going (option_and_then (λ reply. reply.op) told)
+call_few last t going (calls.Commit u) told = commit_few last t going
+call_few last t going (calls.Abort u) told = elim (going.last.0 == 0) as (λ b. length (cond b [] (End t going.last false ∷ [])) ≤ 2) [ true ↦ omega arith | false ↦ omega arith ]
+
+-- what holds of no records and of those of each call
+pub by_call : (P : List Record → Type 0) (r : Open) (call : Call) → P [] → ((t : TxnId) (going : Going) → P (logged_call r.last t going call (reply r call))) → P (logged_by r call)
+by_call P r call none some = by (txn_named call)
   where
-    by : (op : Option Op) → length (logged_op last going op) ≤ 2
-    by None = omega arith
-    by (Some op) = omega (arith, length-append (begin_due going) (Operation going.txn (prev_of last going) op ∷ []), due_few going)
+    goes : (t : TxnId) (o : Option Going) → P (option_map_or (λ going. logged_call r.last t going call (reply r call)) o [])
+    goes t None = none
+    goes t (Some going) = some t going
+
+    by : (o : Option TxnId) → P (option_map_or (λ t. option_map_or (λ going. logged_call r.last t going call (reply r call)) (going_in r t) []) o [])
+    by None = none
+    by (Some t) = goes t (going_in r t)
 
 -- a step logs at most two records
 pub logged_few : (r : Open) (event : StepEvent) → length (logged r event) ≤ 2
-logged_few r (steps.Client call) = reply_few r.last r.live (reply r call)
+logged_few r (steps.Client call) = by_call (λ bodies. length bodies ≤ 2) r call (omega arith) (λ t going. call_few r.last t going call (reply r call))
+logged_few r (steps.Survey epoch) = omega arith
 logged_few r (steps.Start epoch) = omega arith
 logged_few r steps.Barrier = omega arith
 
--- ---- a step
+-- ---- a survey
 
--- The records go on with the log, this replica agrees with it then, and they commit these.
-pub record StepsTo (new : Open) (v : Kept) (items : List Physical) (cs : List Committed) : Type 0 where
-  pub goes_on : GoesOn v items
-  pub agrees : AgreesWith new (after v items)
-  pub commits : commits_in (after v items).records ≡ commits_in v.records ++ cs
+not_both : (a b : Epoch) → epoch_lt a b ≡ true → epoch_lt b a ≡ true → ⊥
+not_both a b p q = grind (arith, nat_tests)
 
--- nothing is logged
-rests : (new : Open) (v : Kept) → AgreesWith new v → StepsTo new v [] []
-rests new v a = record { goes_on = tt; agrees = a; commits = sym (append-nil (commits_in v.records)) }
-
--- one record
-alone : (r new : Open) (v : Kept) (body : Record) (cs : List Committed) → Grows r new v body cs → StepsTo new v (item r body ∷ []) cs
-alone r new v body cs g = record { goes_on = (g.may, tt); agrees = g.agrees; commits = g.commits }
-
--- with these numbers and states in place of its own
-abbrev at : Open → Epoch → Lsn → ℕ → State → State → Option Going → Open
-at r fence last shown contents seen live = record r { fence = fence; last = last; stable = last; shown = shown; contents = contents; seen = seen; live = live }
-
--- a Begin, and then one record of the transaction
-second : (r : Open) (v : Kept) (going : Going) (body : Record) (cs : List Committed) (shown : ℕ) (contents seen : State) (live : Lsn → Option Going)
-    → (let r1 : Open = longer r r.shown r.contents r.seen (Some (begun_at r.last going)) in
-    Grows r r1 v (Begin going.txn) [] → Grows r1 (longer r1 shown contents seen (live (behind (behind r.last 1) 1))) (after_one v (item r (Begin going.txn))) body cs
-    → StepsTo (at r (later r.fence r.epoch) (behind r.last 2) shown contents seen (live (behind r.last 2))) v (item r (Begin going.txn) ∷ item r1 body ∷ []) cs)
-second r v going body cs shown contents seen live = λ one two.
-    let w : Kept = after_one (after_one v (item r (Begin going.txn))) (Logical (record { 0 = r.last.0 + 1 + 1 }) r.epoch body) in
-    let last : behind (behind r.last 1) 1 ≡ behind r.last 2 = ap (λ (n : ℕ). let l : Lsn = record { 0 = n } in l) (let e : r.last.0 + 1 + 1 ≡ r.last.0 + 2 = omega arith in e) in
-    let by_fence : AgreesWith (at r (later r.fence r.epoch) (behind (behind r.last 1) 1) shown contents seen (live (behind (behind r.last 1) 1))) w =
-    subst (λ (e : Epoch). AgreesWith (at r e (behind (behind r.last 1) 1) shown contents seen (live (behind (behind r.last 1) 1))) w) (later_twice r.fence r.epoch) two.agrees in
-    record {
-      goes_on = (one.may, (two.may, tt));
-      agrees = subst (λ (l : Lsn). AgreesWith (at r (later r.fence r.epoch) l shown contents seen (live l)) w) last by_fence;
-      commits = two.commits ∙ ap (λ (ds : List Committed). ds ++ cs) (one.commits ∙ append-nil (commits_in v.records));
-    }
-
--- ---- a call
-
--- a transaction goes on at an active primary
-pub record IsLive (r : Open) : Type 0 where
-  pub going : Going
-  pub is : r.live ≡ Some going
-  pub active : is_active r.role ≡ true
-
--- what an answer needs that logs something
-abbrev pub OpNeeds : Open → Option Op → Type 0
-OpNeeds r None = Unit {0}
-OpNeeds r (Some op) = IsLive r
-
-abbrev pub Needs : Open → Option Reply → Type 0
-Needs r None = IsLive r
-Needs r (Some told) = OpNeeds r told.op
-
-any_op : (r : Open) (op : Option Op) → IsLive r → OpNeeds r op
-any_op r None l = tt
-any_op r (Some op) l = l
-
-any_reply : (r : Open) (o : Option Reply) → IsLive r → Needs r o
-any_reply r None l = l
-any_reply r (Some told) l = any_op r told.op l
-
-named_needs : (r : Open) (call : Call) (txn : TxnId) → is_active r.role ≡ true → (live : Option Going) → r.live ≡ live → Needs r (cond (goes_on live txn) (reply_at r.seen call) (Some (plain (says.Ended txn))))
-named_needs r call txn on None is = tt
-named_needs r call txn on (Some going) is =
-    elim (is_txn txn going.txn) as (λ b. Needs r (cond b (reply_at r.seen call) (Some (plain (says.Ended txn))))) [
-      | true ↦ any_reply r (reply_at r.seen call) (record { going = going; is = is; active = on })
-      | false ↦ tt
-    ]
-
-reply_needs : (r : Open) (call : Call) (txn : TxnId) → txn_named call ≡ Some txn → Needs r (reply r call)
-reply_needs r call txn named = by (is_active r.role) refl
-  where
-    by : (b : Bool) → is_active r.role ≡ b → Needs r (cond b (served r call) (Some (plain (says.NotActive r.id))))
-    by false off = tt
-    by true on = subst (λ (o : Option TxnId). Needs r (option_map_or (λ t. cond (goes_on r.live t) (reply_at r.seen call) (Some (plain (says.Ended t)))) o (Some (plain (says.Txn (next_txn r)))))) (sym named) (named_needs r call txn on r.live refl)
-
-going_in : (r : Open) (log : Items) (going : Going) → r.live ≡ Some going → IsGoing r log r.live → GoesOnIn r log going
-going_in r log going is g = subst (IsGoing r log) is g
-
-zero_is : (n : ℕ) → (n == 0) ≡ true → n ≡ 0
-zero_is n h = grind (arith, nat_tests)
-
-some_is : (n : ℕ) → (n == 0) ≡ false → 1 ≤ n
-some_is n h = grind (arith, nat_tests)
-
--- an operation is logged
-operates : (r : Open) (v : Kept) (op : Op) → AgreesWith r v → (l : IsLive r) → (b : Bool) → (l.going.last.0 == 0) ≡ b
-    → StepsTo (operated (length (cond b (Begin l.going.txn ∷ []) [] ++ Operation l.going.txn (cond b (record { 0 = r.last.0 + 1 }) l.going.last) op ∷ [])) op r) v
-    (placed r.last.0 r.epoch (cond b (Begin l.going.txn ∷ []) [] ++ Operation l.going.txn (cond b (record { 0 = r.last.0 + 1 }) l.going.last) op ∷ [])) []
-operates r v op a l false test =
-    let g = going_in r v.records l.going l.is a.live in
-    let one = operation_grows r v l.going op a l.active l.is g (some_is l.going.last.0 test) in
-    let w : Kept = after_one v (item r (Operation l.going.txn l.going.last op)) in
-    record {
-      goes_on = (one.may, tt);
-      agrees = subst (λ (o : Option Going). AgreesWith (longer r r.shown r.contents (folded r.seen (op ∷ [])) (option_map (with_op (behind r.last 1) op) o)) w) (sym l.is) one.agrees;
-      commits = one.commits;
-    }
-operates r v op a l true test =
-    let g = going_in r v.records l.going l.is a.live in
-    let one = begin_grows r v l.going a l.active l.is g (zero_is l.going.last.0 test) in
-    let r1 : Open = longer r r.shown r.contents r.seen (Some (begun_at r.last l.going)) in
-    let v1 : Kept = after_one v (item r (Begin l.going.txn)) in
-    let two = operation_grows r1 v1 (begun_at r.last l.going) op one.agrees l.active refl one.agrees.live (omega arith) in
-    let all = second r v l.going (Operation l.going.txn (behind r.last 1) op) [] r.shown r.contents (folded r.seen (op ∷ [])) (λ last. Some (with_op last op l.going)) one two in
-    let w : Kept = after v (placed r.last.0 r.epoch (Begin l.going.txn ∷ Operation l.going.txn (behind r.last 1) op ∷ [])) in
-    record {
-      goes_on = all.goes_on;
-      agrees = subst (λ (o : Option Going). AgreesWith (at r (later r.fence r.epoch) (behind r.last 2) r.shown r.contents (folded r.seen (op ∷ [])) (option_map (with_op (behind r.last 2) op) o)) w) (sym l.is) all.agrees;
-      commits = all.commits;
-    }
-
--- an End is logged
-ends : (r : Open) (v : Kept) → AgreesWith r v → (l : IsLive r) → (b : Bool) → (l.going.last.0 == 0) ≡ b
-    → StepsTo (committed (length (cond b (Begin l.going.txn ∷ []) [] ++ End l.going.txn (cond b (record { 0 = r.last.0 + 1 }) l.going.last) true ∷ [])) r) v
-    (placed r.last.0 r.epoch (cond b (Begin l.going.txn ∷ []) [] ++ End l.going.txn (cond b (record { 0 = r.last.0 + 1 }) l.going.last) true ∷ [])) (commit l.going ∷ [])
-ends r v a l false test =
-    let g = going_in r v.records l.going l.is a.live in
-    let one = end_grows r v l.going a l.active l.is g (some_is l.going.last.0 test) in
-    record { goes_on = (one.may, tt); agrees = one.agrees; commits = one.commits }
-ends r v a l true test =
-    let g = going_in r v.records l.going l.is a.live in
-    let one = begin_grows r v l.going a l.active l.is g (zero_is l.going.last.0 test) in
-    let r1 : Open = longer r r.shown r.contents r.seen (Some (begun_at r.last l.going)) in
-    let v1 : Kept = after_one v (item r (Begin l.going.txn)) in
-    let two = end_grows r1 v1 (begun_at r.last l.going) one.agrees l.active refl one.agrees.live (omega arith) in
-    second r v l.going (End l.going.txn (behind r.last 1) true) (commit l.going ∷ []) (r.shown + 1) r.seen r.seen (λ last. None) one two
-
--- an answer that logs nothing
-no_records : (last : Lsn) (live : Option Going) (told : Reply) → told.op ≡ None → logged_reply last live (Some told) ≡ []
-no_records last None told none = refl
-no_records last (Some going) told none = ap (logged_op last going) none
-
-replies : (r : Open) (v : Kept) → AgreesWith r v → (o : Option Reply) → Needs r o
-    → StepsTo (replied (length (logged_reply r.last r.live o)) o r) v (placed r.last.0 r.epoch (logged_reply r.last r.live o)) (option_map_or (λ told. []) o (commit_of r.live))
-replies r v a None l =
-    subst (λ (o : Option Going). StepsTo (committed (length (logged_reply r.last o None)) r) v (placed r.last.0 r.epoch (logged_reply r.last o None)) (commit_of o)) (sym l.is)
-    (ends r v a l (l.going.last.0 == 0) refl)
-replies r v a (Some told) needs = by told.op refl needs
-  where
-    by : (op : Option Op) → told.op ≡ op → OpNeeds r op → StepsTo (replied (length (logged_reply r.last r.live (Some told))) (Some told) r) v (placed r.last.0 r.epoch (logged_reply r.last r.live (Some told))) []
-    by None is l = subst (λ (bodies : List Record). StepsTo (option_map_or (λ op. operated (length bodies) op r) told.op r) v (placed r.last.0 r.epoch bodies) []) (sym (no_records r.last r.live told is))
-        (subst (λ (op : Option Op). StepsTo (option_map_or (λ op. operated 0 op r) op r) v [] []) (sym is) (rests r v a))
-    by (Some op) is l = subst (λ (o : Option Going). StepsTo (option_map_or (λ op. operated (length (logged_reply r.last o (Some told))) op r) told.op r) v (placed r.last.0 r.epoch (logged_reply r.last o (Some told))) []) (sym l.is)
-        (subst (λ (op : Option Op). StepsTo (option_map_or (λ one. operated (length (logged_op r.last l.going op)) one r) op r) v (placed r.last.0 r.epoch (logged_op r.last l.going op)) []) (sym is)
-        (operates r v op a l (l.going.last.0 == 0) refl))
-
--- ---- a begin
-
-next_is_new : (r : Open) (log : Items) → IsPrimary r log r.epoch true → with_txn (next_txn r) (known_in log) ≡ None
-next_is_new r log p = by (with_txn (next_txn r) (known_in log)) refl
-  where
-    by : (o : Option Known) → with_txn (next_txn r) (known_in log) ≡ o → o ≡ None
-    by None is = refl
-    by (Some k) is = absurd (omega (arith, p.counted (next_txn r) k is refl))
-
-pub begin_agrees : (r : Open) (v : Kept) → AgreesWith r v → is_active r.role ≡ true → r.live ≡ None → AgreesWith (began r) v
-begin_agrees r v a on free =
-    let primary = active_primary r v.records r.role refl a.role on in
-    let new : Open = began r in
-    record {
+-- it goes on as no primary, with this fence
+laid_down : (r : Open) (v w : Kept) (fence : Epoch) → AgreesWith r v → w.records ≡ v.records → w.identity ≡ v.identity → w.fence ≡ fence → AgreesWith (record r { fence = fence; role = Other; front = nothing no_epoch }) w
+laid_down r v w fence a records identity fence_is =
+    let new : Open = record r { fence = fence; role = Other; front = nothing no_epoch } in
+    let same : (let x : Kept = record { identity = v.identity; fence = fence; records = v.records } in x) ≡ w =
+    ap (λ (l : Items). let x : Kept = record { identity = v.identity; fence = fence; records = l } in x) (sym records)
+    ∙ ap (λ (i : Option ℕ). let x : Kept = record { identity = i; fence = fence; records = w.records } in x) (sym identity)
+    ∙ ap (λ (e : Epoch). let x : Kept = record { identity = w.identity; fence = e; records = w.records } in x) (sym fence_is) in
+    subst (AgreesWith new) same (record {
       identity = a.identity;
-      fence = a.fence;
+      fence = refl;
       epoch = a.epoch;
       last = a.last;
       stable_told = a.stable_told;
@@ -251,38 +143,32 @@ begin_agrees r v a on free =
       shown = a.shown;
       contents = a.contents;
       commits = a.commits;
-      seen = subst (λ (o : Option Going). folded r.contents (ops_going o) ≡ r.seen) free a.seen;
       epochs = a.epochs;
-      role = subst (HasRole new v.records) (sym primary.0) (record {
-        last_one = refl;
-        active = refl;
-        stable = primary.1.stable;
-        shown = primary.1.shown;
-        counted = λ txn k h same. omega (arith, primary.1.counted txn k h same);
-      });
-      live = record {
-        active = primary.0;
-        epoch = refl;
-        begun = omega arith;
-        known = subst (IsKnownAs (record { txn = next_txn r; last = record { 0 = 0 }; ops = [] })) (sym (next_is_new r v.records primary.1)) (refl, refl);
-      };
-    }
+      role = refl;
+      over = IsOver-nothing no_epoch r.contents a.over.ordered;
+      known = λ n going is. absurd (none-some going is);
+    })
 
-begins : (r : Open) (v : Kept) → AgreesWith r v → IsAlone r calls.Begin → (b : Bool) → is_active r.role ≡ b
-    → (let o : Option Reply = cond b (served r calls.Begin) (Some (plain (says.NotActive r.id))) in
-    StepsTo (cond b (began r) r) v (placed r.last.0 r.epoch (logged_reply r.last r.live o)) (option_map_or (λ told. []) o (commit_of r.live)))
-begins r v a free true on = subst (λ (o : Option Going). StepsTo (began r) v (placed r.last.0 r.epoch (logged_reply r.last o (Some (plain (says.Txn (next_txn r)))))) []) (sym (free on)) (rests (began r) v (begin_agrees r v a on (free on)))
-begins r v a free false off = subst (λ (bodies : List Record). StepsTo r v (placed r.last.0 r.epoch bodies) []) (sym (no_records r.last r.live (plain (says.NotActive r.id)) refl)) (rests r v a)
+survey_steps : (r : Open) (v : Kept) (epoch : Epoch) → AgreesWith r v → StepsTo (surveyed epoch r) v (block r (steps.Survey epoch)) []
+survey_steps r v epoch a = by (epoch_lt epoch r.fence) refl (epoch_lt r.fence epoch) refl
+  where
+    by : (low : Bool) → epoch_lt epoch r.fence ≡ low → (up : Bool) → epoch_lt r.fence epoch ≡ up
+        → StepsTo (cond low r (record r { fence = cond up epoch r.fence; role = Other; front = nothing no_epoch })) v (cond up (Fence epoch ∷ []) [] ++ []) []
+    by true low true up = absurd (not_both epoch r.fence low up)
+    by true low false up = rests r v a
+    by false low false up = rests (record r { fence = r.fence; role = Other; front = nothing no_epoch }) v (laid_down r v v r.fence a refl refl a.fence)
+    by false low true up = record {
+      goes_on = (tt, tt);
+      agrees = laid_down r v (after_one v (Fence epoch)) epoch a refl refl (ap (λ (e : Epoch). later e epoch) a.fence ∙ ap (λ (b : Bool). cond b epoch r.fence) up);
+      commits = sym (append-nil (commits_in v.records));
+    }
 
 -- ---- each step
 
 -- a step goes on with the log, and the replica agrees with the log behind it
 pub steps_to : (r : Open) (v : Kept) (event : StepEvent) → AgreesWith r v → MayStep r event → StepsTo (stepped r event) v (block r event) (committed_by r event)
-steps_to r v (steps.Client calls.Begin) a may = begins r v a may.1 (is_active r.role) refl
-steps_to r v (steps.Client (calls.Make txn name kind)) a may = replies r v a (reply r (calls.Make txn name kind)) (reply_needs r (calls.Make txn name kind) txn refl)
-steps_to r v (steps.Client (calls.Get txn name key)) a may = replies r v a (reply r (calls.Get txn name key)) (reply_needs r (calls.Get txn name key) txn refl)
-steps_to r v (steps.Client (calls.Set txn name key value)) a may = replies r v a (reply r (calls.Set txn name key value)) (reply_needs r (calls.Set txn name key value) txn refl)
-steps_to r v (steps.Client (calls.Commit txn)) a may = replies r v a (reply r (calls.Commit txn)) (reply_needs r (calls.Commit txn) txn refl)
+steps_to r v (steps.Client call) a may = call_steps r v call a
+steps_to r v (steps.Survey epoch) a may = survey_steps r v epoch a
 steps_to r v (steps.Start epoch) a may =
     let s = epoch_starts r v epoch a may in
     record { goes_on = (s.may, tt); agrees = s.agrees; commits = s.commits ∙ sym (append-nil (commits_in v.records)) }
@@ -305,21 +191,28 @@ stable_items log epoch (body ∷ bodies) n low told =
     subst (λ (l : Items). stable_in l ≤ n) (append_assoc log ((epoch, body) ∷ []) (map (λ b. (epoch, b)) bodies))
     (stable_items (log ++ (epoch, body) ∷ []) epoch bodies n (stable_push log epoch body n low told.0) told.1)
 
-due_told : (n : ℕ) (b : Bool) (txn : TxnId) (bodies : List Record) → AllTold n bodies → AllTold n (cond b (Begin txn ∷ []) [] ++ bodies)
-due_told n true txn bodies h = (omega arith, h)
-due_told n false txn bodies h = h
+due_told : (n : ℕ) (b : Bool) (t : TxnId) (bodies : List Record) → AllTold n bodies → AllTold n (cond b (Begin t ∷ []) [] ++ bodies)
+due_told n true t bodies h = (omega arith, h)
+due_told n false t bodies h = h
 
-reply_told : (n : ℕ) (last : Lsn) (live : Option Going) (o : Option Reply) → AllTold n (logged_reply last live o)
-reply_told n last None o = tt
-reply_told n last (Some going) None = due_told n (going.last.0 == 0) going.txn _ (omega arith, tt)
-reply_told n last (Some going) (Some told) = by told.op
-  where
-    by : (op : Option Op) → AllTold n (logged_op last going op)
-    by None = tt
-    by (Some op) = due_told n (going.last.0 == 0) going.txn _ (omega arith, tt)
+op_told : (n : ℕ) (last : Lsn) (t : TxnId) (going : Going) (op : Option Op) → AllTold n (logged_op last t going op)
+op_told n last t going None = tt
+op_told n last t going (Some op) = due_told n (going.last.0 == 0) t _ (omega arith, tt)
+
+call_told : (n : ℕ) (last : Lsn) (t : TxnId) (going : Going) (call : Call) (told : Option Reply) → AllTold n (logged_call last t going call told)
+call_told n last t going calls.Begin told = op_told n last t going (option_and_then (λ reply. reply.op) told)
+call_told n last t going (calls.Make u name kind) told = op_told n last t going (option_and_then (λ reply. reply.op) told)
+call_told n last t going (calls.Get u name key) told = op_told n last t going (option_and_then (λ reply. reply.op) told)
+call_told n last t going (calls.GetForUpdate u name key) told = op_told n last t going (option_and_then (λ reply. reply.op) told)
+call_told n last t going (calls.Set u name key value) told = op_told n last t going (option_and_then (λ reply. reply.op) told)
+call_told n last t going (calls.Add u name key value) told = op_told n last t going (option_and_then (λ reply. reply.op) told)
+call_told n last t going (calls.Delete u name key) told = op_told n last t going (option_and_then (λ reply. reply.op) told)
+call_told n last t going (calls.Commit u) told = due_told n (going.last.0 == 0) t _ (omega arith, tt)
+call_told n last t going (calls.Abort u) told = elim (going.last.0 == 0) as (λ b. AllTold n (cond b [] (End t going.last false ∷ []))) [ true ↦ tt | false ↦ (omega arith, tt) ]
 
 logged_told : (r : Open) (event : StepEvent) → AllTold r.stable.0 (logged r event)
-logged_told r (steps.Client call) = reply_told r.stable.0 r.last r.live (reply r call)
+logged_told r (steps.Client call) = by_call (AllTold r.stable.0) r call tt (λ t going. call_told r.stable.0 r.last t going call (reply r call))
+logged_told r (steps.Survey epoch) = tt
 logged_told r (steps.Start epoch) = (omega arith, tt)
 logged_told r steps.Barrier = (omega arith, tt)
 
@@ -334,20 +227,73 @@ shows_after r v event a may =
 
 -- ---- how far a step counts
 
-replied_begins : (count : ℕ) (o : Option Reply) (r : Open) → (replied count o r).begins ≡ r.begins
-replied_begins count None r = refl
-replied_begins count (Some told) r = by told.op
+logged_begins : (f : Fronted) (t : TxnId) (lsn : Lsn) → (front.logged f t lsn).begins ≡ f.begins
+logged_begins f t lsn = by (going_of f t)
   where
-    by : (op : Option Op) → (option_map_or (λ op. operated count op r) op r).begins ≡ r.begins
+    by : (o : Option Going) → (option_map_or (λ going. front.with_going t.n (record going { last = lsn }) f) o f).begins ≡ f.begins
     by None = refl
-    by (Some op) = refl
+    by (Some going) = refl
+
+noted_begins : (count : ℕ) (call : Call) (lsn : Lsn) (f : Fronted) → (noted count call lsn f).begins ≡ f.begins
+noted_begins zero call lsn f = refl
+noted_begins (suc n) call lsn f = by (txn_named call)
+  where
+    by : (o : Option TxnId) → (option_map_or (λ t. front.logged f t lsn) o f).begins ≡ f.begins
+    by None = refl
+    by (Some t) = logged_begins f t lsn
+
+ended_begins : (f : Fronted) (t : TxnId) → (front.ended f t).begins ≡ f.begins
+ended_begins f t = by (going_of f t)
+  where
+    by : (o : Option Going) → (option_map_or (λ going. record f { live = remove_entry (is_at (nat_cmp t.n)) f.live; grants = released f.grants t }) o f).begins ≡ f.begins
+    by None = refl
+    by (Some going) = refl
+
+operated_begins : (n : ℕ) (going : Going) (op : Option Op) (f : Fronted) → (operated n going op f).begins ≡ f.begins
+operated_begins n going None f = refl
+operated_begins n going (Some op) f = refl
+
+asked_begins : (f : Fronted) (state : State) (call : Call) (o : Option TxnId) → (option_map_or (λ t. option_map_or (λ going. front.asked f state t going call) (going_of f t) f) o (begun f)).begins ≤ f.begins + 1
+asked_begins f state call None = omega arith
+asked_begins f state call (Some t) = by (going_of f t)
+  where
+    by : (o : Option Going) → (option_map_or (λ going. front.asked f state t going call) o f).begins ≤ f.begins + 1
+    by None = omega arith
+    by (Some going) =
+        let seen : State = folded state going.ops in
+        let same : (front.asked f state t going call).begins ≡ f.begins = operated_begins t.n going (option_and_then (λ reply. reply.op) (live_reply f.grants seen t call)) (record f { grants = taken f.grants t (locks_at seen call) }) in
+        omega (arith, same)
+
+called_begins : (f : Fronted) (state : State) (call : Call) → (front.called f state call).begins ≤ f.begins + 1
+called_begins f state call = asked_begins f state call (txn_named call)
+
+commit_begins : (count : ℕ) (r : Open) (t : TxnId) → (answered count (calls.Commit t) r).front.begins ≤ r.front.begins + 1
+commit_begins count r t = by (going_of r.front t)
+  where
+    by : (o : Option Going) → (option_map_or (λ going. record (lengthened count r.epoch r) { shown = r.shown + 1; contents = folded r.contents going.ops; front = front.ended r.front t }) o r).front.begins ≤ r.front.begins + 1
+    by None = omega arith
+    by (Some going) = omega (arith, ended_begins r.front t)
+
+noted_few : (count : ℕ) (r : Open) (call : Call) (lsn : Lsn) → (noted count call lsn (front.called r.front r.contents call)).begins ≤ r.front.begins + 1
+noted_few count r call lsn = omega (arith, noted_begins count call lsn (front.called r.front r.contents call), called_begins r.front r.contents call)
+
+answered_begins : (count : ℕ) (r : Open) (call : Call) → (answered count call r).front.begins ≤ r.front.begins + 1
+answered_begins count r calls.Begin = noted_few count r calls.Begin (behind r.last count)
+answered_begins count r (calls.Make t name kind) = noted_few count r (calls.Make t name kind) (behind r.last count)
+answered_begins count r (calls.Get t name key) = noted_few count r (calls.Get t name key) (behind r.last count)
+answered_begins count r (calls.GetForUpdate t name key) = noted_few count r (calls.GetForUpdate t name key) (behind r.last count)
+answered_begins count r (calls.Set t name key value) = noted_few count r (calls.Set t name key value) (behind r.last count)
+answered_begins count r (calls.Add t name key value) = noted_few count r (calls.Add t name key value) (behind r.last count)
+answered_begins count r (calls.Delete t name key) = noted_few count r (calls.Delete t name key) (behind r.last count)
+answered_begins count r (calls.Commit t) = commit_begins count r t
+answered_begins count r (calls.Abort t) = omega (arith, ended_begins r.front t)
 
 -- a step begins at most one transaction
-pub begins_few : (r : Open) (event : StepEvent) → (stepped r event).begins ≤ r.begins + 1
-begins_few r (steps.Client calls.Begin) = elim (is_active r.role) as (λ b. (cond b (began r) r).begins ≤ r.begins + 1) [ true ↦ omega arith | false ↦ omega arith ]
-begins_few r (steps.Client (calls.Make txn name kind)) = omega (arith, replied_begins (length (logged r (steps.Client (calls.Make txn name kind)))) (reply r (calls.Make txn name kind)) r)
-begins_few r (steps.Client (calls.Get txn name key)) = omega (arith, replied_begins (length (logged r (steps.Client (calls.Get txn name key)))) (reply r (calls.Get txn name key)) r)
-begins_few r (steps.Client (calls.Set txn name key value)) = omega (arith, replied_begins (length (logged r (steps.Client (calls.Set txn name key value)))) (reply r (calls.Set txn name key value)) r)
-begins_few r (steps.Client (calls.Commit txn)) = omega (arith, replied_begins (length (logged r (steps.Client (calls.Commit txn)))) (reply r (calls.Commit txn)) r)
+pub begins_few : (r : Open) (event : StepEvent) → (stepped r event).front.begins ≤ r.front.begins + 1
+begins_few r (steps.Client call) = elim (is_active r.role) as (λ b. (cond b (answered (length (logged_by r call)) call r) r).front.begins ≤ r.front.begins + 1) [
+  | true ↦ answered_begins (length (logged_by r call)) r call
+  | false ↦ omega arith
+]
+begins_few r (steps.Survey epoch) = elim (epoch_lt epoch r.fence) as (λ b. (cond b r (record r { fence = later r.fence epoch; role = Other; front = nothing no_epoch })).front.begins ≤ r.front.begins + 1) [ true ↦ omega arith | false ↦ omega arith ]
 begins_few r (steps.Start epoch) = omega arith
 begins_few r steps.Barrier = omega arith

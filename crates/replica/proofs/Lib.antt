@@ -1,5 +1,9 @@
+pub mod Calls
 pub mod Lengthened
 pub mod OneMore
 pub mod OneRecord
 pub mod Opening
+pub mod Puts
+pub mod Short
 pub mod Stepped
+pub mod Told

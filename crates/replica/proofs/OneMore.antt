@@ -109,6 +109,16 @@ with_map rs txn (k ∷ ks) =
       | false ↦ with_map rs txn ks
     ]
 
+-- who isn't changed himself is found as before
+pub others_stay : (rs : List Logged) (t u : TxnId) (ks : List Known) → ((k : Known) → is_txn t k.txn ≡ false → followed rs k ≡ k) → is_txn t u ≡ false → with_txn u (map (followed rs) ks) ≡ with_txn u ks
+others_stay rs t u ks stay away = with_map rs u ks ∙ by (with_txn u ks) refl
+  where
+    by : (o : Option Known) → with_txn u ks ≡ o → option_map (followed rs) o ≡ o
+    by None was = refl
+    by (Some k) was =
+        let same : k.txn ≡ u = is_txn-true k.txn u (known_is u ks k was) in
+        ap (λ (x : Known). Some x) (stay k (subst (λ (w : TxnId). is_txn t w ≡ false) (sym same) away))
+
 not_first : (txn : TxnId) (o : Known) (ks : List Known) → with_txn txn (o ∷ ks) ≡ None → (is_txn o.txn txn ≡ false) × (with_txn txn ks ≡ None)
 not_first txn o ks h = by (is_txn o.txn txn) refl h
   where

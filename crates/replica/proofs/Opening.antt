@@ -8,7 +8,7 @@ use Rattle.std.proofs.lemmas.Option.{none-some}
 use Rattle.rc_base.specs.declared.ids.Epoch.{Epoch}
 use Rattle.rc_base.specs.declared.ids.Lsn.{Lsn}
 use Rattle.rc_base.specs.declared.ids.TxnId.{TxnId}
-use Rattle.rc_base.specs.Ids.{epoch_lt, epoch_le, is_epoch, is_txn}
+use Rattle.rc_base.specs.Ids.{epoch_lt, epoch_le, is_epoch, is_txn, no_epoch}
 use Rattle.rc_base.proofs.SameIds.{is_epoch-true, is_txn-true}
 use Rattle.coll_model.specs.declared.op.Op.{Op}
 use Rattle.coll_model.specs.Effect.{State, folded}
@@ -22,6 +22,10 @@ use Rattle.log_store.specs.Log.{Items, last_from, last_epoch, may_follow, may_st
 use Rattle.replica.specs.declared.mounting.Shown.{Shown}
 use Rattle.log_store.specs.declared.durable.Durable.{Durable}
 use Rattle.log_store.specs.Store.{Store, kept_as}
+use Rattle.order_machine.specs.OrderedStates.{IsOrdered}
+use Rattle.txn_front.specs.Front.{Fronted, nothing}
+use Rattle.order_machine.proofs.ProtectedStates.{IsOrdered-nil, IsOrdered-folded}
+use Rattle.txn_front.proofs.Fronts.{IsOver-nothing}
 use Rattle.replica.specs.declared.role.Role.TheVariants.{Other}
 use Rattle.replica.specs.Open.{Open, stable_told, stable_in, commits_to, state_of, AgreesWith}
 use Rattle.replica.specs.Reading.{IsRead, with_commit}
@@ -193,8 +197,8 @@ epochs_of log h = epochs_behind [] log h (λ txn known k. absurd (none-some know
 -- ---- the replica behind it
 
 -- what a replica keeps that was opened
-abbrev pub mounted : ℕ → Store → Epoch → Epoch → ℕ → Shown → State → Open
-mounted id store fence epoch last shown seen = record {
+abbrev pub mounted : ℕ → Store → Epoch → Epoch → ℕ → Shown → Fronted → Open
+mounted id store fence epoch last shown front = record {
   id = id;
   log = store;
   fence = fence;
@@ -203,17 +207,15 @@ mounted id store fence epoch last shown seen = record {
   stable = shown.stable;
   shown = shown.count;
   contents = shown.contents;
-  seen = seen;
   ahead = shown.ahead;
   role = Other;
-  begins = 0;
-  live = None;
+  front = front;
 }
 
-pub mounted_agrees : (id : ℕ) (store : Store) (told : Durable) (epoch : Epoch) (shown : Shown) (seen : State) (log : Items) → log ≡ told.records → IsLog told.records → IsRead shown log → shown.stable.0 ≡ stable_in log
-    → epoch ≡ last_epoch log → seen ≡ shown.contents → AgreesWith (mounted id store told.fence epoch (length log) shown seen) (kept_as store.identity told) × (shown.stable.0 ≡ stable_in told.records)
-mounted_agrees id store told epoch shown seen log same is r stable last twice = (
-  record {
+pub mounted_agrees : (id : ℕ) (store : Store) (told : Durable) (epoch : Epoch) (shown : Shown) (front : Fronted) (log : Items) → log ≡ told.records → IsLog told.records → IsRead shown log → shown.stable.0 ≡ stable_in log
+    → epoch ≡ last_epoch log → front ≡ nothing no_epoch → AgreesWith (mounted id store told.fence epoch (length log) shown front) (kept_as store.identity told) × (shown.stable.0 ≡ stable_in told.records)
+mounted_agrees id store told epoch shown front log same is r stable last new = (
+  subst (λ (f : Fronted). AgreesWith (mounted id store told.fence epoch (length log) shown f) (kept_as store.identity told)) (sym new) (record {
     identity = refl;
     fence = refl;
     epoch = ap last_epoch (sym same) ∙ sym last;
@@ -223,10 +225,10 @@ mounted_agrees id store told epoch shown seen log same is r stable last twice = 
     shown = subst (λ (l : Items). length (commits_to shown.stable.0 l) ≡ shown.count) same (sym r.count);
     contents = subst (λ (l : Items). state_of (commits_to shown.stable.0 l) ≡ shown.contents) same (sym r.contents);
     commits = subst (λ (l : Items). commits_in l ≡ commits_to shown.stable.0 l ++ shown.ahead) same r.commits;
-    seen = sym twice;
     epochs = λ txn known k. subst (λ (e : Epoch). epoch_le txn.epoch e ≡ true) (ap last_epoch (sym same) ∙ sym last) (epochs_of told.records is txn known k);
-    role = tt;
-    live = tt;
-  },
+    role = refl;
+    over = IsOver-nothing no_epoch shown.contents (subst IsOrdered (sym r.contents) (IsOrdered-folded [] (flat_map (λ c. c.ops) (commits_to shown.stable.0 log)) IsOrdered-nil));
+    known = λ n going there. absurd (none-some going there);
+  }),
   stable ∙ ap stable_in same,
 )

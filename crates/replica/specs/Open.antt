@@ -1,11 +1,9 @@
 -- An open replica: what it keeps, and when that agrees with its log.
-use Rattle.std.specs.Prelude.{◌≡◌, ℕ, ◌+◌, ◌≤◌, max, Bool, true, false, List, [], ◌∷◌, ◌++◌, length, take, map, flat_map, Option, Some, None, if◌then◌else◌, ◌==◌}
-use Rattle.std.specs.Option.{option_map_or}
+use Rattle.std.specs.Prelude.{◌≡◌, ℕ, ◌≤◌, max, Bool, true, List, [], ◌∷◌, ◌++◌, length, take, map, flat_map, Option, Some, None}
 use Rattle.rc_base.specs.declared.ids.Epoch.{Epoch}
 use Rattle.rc_base.specs.declared.ids.Lsn.{Lsn}
 use Rattle.rc_base.specs.declared.ids.TxnId.{TxnId}
-use Rattle.rc_base.specs.Ids.{epoch_le, is_txn}
-use Rattle.coll_model.specs.declared.op.Op.{Op}
+use Rattle.rc_base.specs.Ids.{epoch_le}
 use Rattle.coll_model.specs.Effect.{State, folded}
 use Rattle.log_records.specs.declared.record.Record.{Record}
 use Rattle.log_records.specs.declared.record.Record.TheVariants.{Begin, Operation, End, Barrier, EpochStart}
@@ -15,15 +13,15 @@ use Rattle.txn_table.specs.Commits.{with_txn, is_pending, last_of}
 use Rattle.log_store.specs.declared.kept.Kept.{Kept}
 use Rattle.log_store.specs.Store.{Store}
 use Rattle.log_store.specs.Log.{Items, last_epoch, known_in, commits_in}
-use Rattle.replica.specs.declared.going.Going.{Going}
+use Rattle.txn_front.specs.Front.{Fronted, Going, AreAlike, IsOver, numbered, txn_at}
 use Rattle.replica.specs.declared.role.Role.{Role}
 use Rattle.replica.specs.declared.role.Role.TheVariants.{Other, Primary}
 
 -- ---- what it keeps
 
 -- Its number; its log; its fence; the epoch and the position of the last record; the stable position, and how many
--- commits stand at or below it; their state, which is what the replica shows; that state with what goes on; the commits
--- above the stable position; its role, and how many transactions it began in it; and the transaction that goes on.
+-- commits stand at or below it; their state, which is what the replica shows; the commits above the stable position; its
+-- role; and what goes on in it.
 pub record Open : Type 0 where
   pub id : ℕ
   pub log : Store
@@ -33,11 +31,14 @@ pub record Open : Type 0 where
   pub stable : Lsn
   pub shown : ℕ
   pub contents : State
-  pub seen : State
   pub ahead : List Committed
   pub role : Role
-  pub begins : ℕ
-  pub live : Option Going
+  pub front : Fronted
+
+-- the same, whatever the order between grants of different names is
+pub record AreSame (a b : Open) : Type 0 where
+  pub same : a ≡ record b { front = a.front }
+  pub front : AreAlike a.front b.front
 
 -- ---- what a log shows
 
@@ -68,26 +69,11 @@ state_of commits = folded [] (flat_map (λ c. c.ops) commits)
 
 -- ---- when it agrees with its log
 
--- the operations of the transaction that goes on
-abbrev pub ops_going : Option Going → List Op
-ops_going live = option_map_or (λ going. going.ops) live []
-
 -- The log knows what goes on as the replica does: not at all before its first record, and then as pending, with the same
 -- last record and operations.
 abbrev pub IsKnownAs : Going → Option Known → Type 0
 IsKnownAs going None = (going.last.0 ≡ 0) × (going.ops ≡ [])
 IsKnownAs going (Some known) = (1 ≤ going.last.0) × (is_pending known ≡ true) × (last_of known ≡ going.last) × (map (λ o. o.1) known.ops ≡ going.ops)
-
--- A transaction goes on at a primary alone, which began it in its epoch.
-pub record GoesOnIn (r : Open) (log : Items) (going : Going) : Type 0 where
-  pub active : r.role ≡ Primary r.epoch true
-  pub epoch : going.txn.epoch ≡ r.epoch
-  pub begun : going.txn.n ≤ r.begins
-  pub known : IsKnownAs going (with_txn going.txn (known_in log))
-
-abbrev pub IsGoing : Open → Items → Option Going → Type 0
-IsGoing r log None = Unit {0}
-IsGoing r log (Some going) = GoesOnIn r log going
 
 -- A primary that is alone is active. All of its log is stable, and it counts the transactions of its epoch.
 pub record IsPrimary (r : Open) (log : Items) (epoch : Epoch) (serves : Bool) : Type 0 where
@@ -95,10 +81,12 @@ pub record IsPrimary (r : Open) (log : Items) (epoch : Epoch) (serves : Bool) : 
   pub active : serves ≡ true
   pub stable : r.stable ≡ r.last
   pub shown : r.ahead ≡ []
-  pub counted : (txn : TxnId) (known : Known) → with_txn txn (known_in log) ≡ Some known → txn.epoch ≡ r.epoch → txn.n ≤ r.begins
+  pub begins_in : r.front.epoch ≡ r.epoch
+  pub counted : (txn : TxnId) (known : Known) → with_txn txn (known_in log) ≡ Some known → txn.epoch ≡ r.epoch → txn.n ≤ r.front.begins
 
+-- nothing goes on but at a primary
 abbrev pub HasRole : Open → Items → Role → Type 0
-HasRole r log Other = Unit {0}
+HasRole r log Other = r.front.live ≡ []
 HasRole r log (Primary epoch active) = IsPrimary r log epoch active
 
 -- What an open replica keeps is told by its log.
@@ -112,7 +100,7 @@ pub record AgreesWith (r : Open) (kept : Kept) : Type 0 where
   pub shown : length (commits_to r.stable.0 kept.records) ≡ r.shown
   pub contents : state_of (commits_to r.stable.0 kept.records) ≡ r.contents
   pub commits : commits_in kept.records ≡ commits_to r.stable.0 kept.records ++ r.ahead
-  pub seen : folded r.contents (ops_going r.live) ≡ r.seen
   pub epochs : (txn : TxnId) (known : Known) → with_txn txn (known_in kept.records) ≡ Some known → epoch_le txn.epoch r.epoch ≡ true
   pub role : HasRole r kept.records r.role
-  pub live : IsGoing r kept.records r.live
+  pub over : IsOver r.front r.contents
+  pub known : (n : ℕ) (going : Going) → numbered n r.front.live ≡ Some going → IsKnownAs going (with_txn (txn_at r.front n) (known_in kept.records))

@@ -5,10 +5,8 @@ mod commits;
 mod effects;
 mod epochs;
 mod error;
-mod going;
 mod mounting;
 mod replica;
-mod replies;
 mod role;
 mod step;
 mod stepping;
@@ -16,11 +14,7 @@ mod txn_ids;
 
 pub use commits::Commits;
 pub use error::StepError;
-pub use going::Going;
 pub use replica::Replica;
 pub use role::Role;
 pub use step::{Outcome, StepEvent};
 pub use txn_ids::TxnIds;
-
-#[cfg(test)]
-mod tests;

@@ -1,20 +1,21 @@
-ghost use Rattle.std.specs.Prelude.{◌≡◌, ◌≢◌, ◌+◌, ◌<◌, ◌^◌, ◌↔◌, [], false, None, Ok, Err, IfOk, OnOk, IsErrOf, IsTrue};
+ghost use Rattle.std.specs.Prelude.{◌≡◌, ◌≢◌, ◌+◌, ◌<◌, ◌^◌, [], false, None, Ok, Err, IfOk, OnOk, IsErrOf};
 ghost use Rattle.rc_base.specs.Counts.{Counted};
+ghost use Rattle.rc_base.specs.Ids.{no_epoch};
 ghost use Rattle.disk_model.specs.Disk.{Follows, Only, Each};
 ghost use Rattle.log_store.specs.declared.error.RecoverError.TheVariants as recover_errors;
 ghost use Rattle.log_store.specs.declared.kept.Kept.{Kept};
 ghost use Rattle.log_store.specs.Durable.{durable, StandFor, StandForOneOf, KeepsSlots};
 ghost use Rattle.log_store.specs.Growth.{after};
 ghost use Rattle.log_store.specs.Store.{IsOpenOn, KeepsOrBegins, SlotsStay};
+ghost use Rattle.txn_front.specs.Front.{nothing};
 ghost use Rattle.replica.specs.declared.error.StepError.TheVariants as errors;
 ghost use Rattle.replica.specs.declared.role.Role.TheVariants.{Other};
-ghost use Rattle.replica.specs.Open.{AgreesWith, stable_in};
+ghost use Rattle.replica.specs.Open.{AgreesWith, AreSame, stable_in};
 ghost use Rattle.replica.specs.Step as spec;
 ghost use Rattle.replica.specs.Step.{MayStep, block, outcome, quiet, stepped};
 
 use crate::commits::Commits;
 use crate::error::StepError;
-use crate::going::Going;
 use crate::mounting::{last_epoch, read};
 use crate::role::Role;
 use crate::step::{Outcome, StepEvent};
@@ -24,6 +25,7 @@ use log_store::{LogStore, RecoverError};
 use rc_base::{Epoch, Lsn, ReplicaId};
 use std::alloc::Global;
 use std::marker::Model;
+use txn_front::Front;
 
 /// An open replica. It keeps no record of its log in memory.
 #[derive(Drop)]
@@ -37,11 +39,9 @@ pub struct Replica {
     pub(crate) stable: Lsn,
     pub(crate) shown: u64,
     pub(crate) contents: State,
-    pub(crate) seen: State,
     pub(crate) ahead: Commits,
     pub(crate) role: Role,
-    pub(crate) begins: u64,
-    pub(crate) live: Option<Going>,
+    pub(crate) front: Front,
 }
 
 impl Model for Replica {
@@ -49,7 +49,7 @@ impl Model for Replica {
 
     ghost Value = { Open };
 
-    ghost view = { λ r. record { id = r.id; log = r.log; fence = r.fence; epoch = r.epoch; last = r.last; stable = r.stable; shown = r.shown; contents = r.contents; seen = r.seen; ahead = r.ahead; role = r.role; begins = r.begins; live = r.live } };
+    ghost view = { λ r. record { id = r.id; log = r.log; fence = r.fence; epoch = r.epoch; last = r.last; stable = r.stable; shown = r.shown; contents = r.contents; ahead = r.ahead; role = r.role; front = r.front } };
 }
 
 impl Replica {
@@ -69,7 +69,7 @@ impl Replica {
         ensures opened { IfOk result (λ r. IsOpenOn r.0.log (D.images disk.new)) }
         ensures not_closed { IfOk result (λ r. r.0.log.log.closed ≡ false) }
         ensures agrees { IfOk result (λ r. (v : Kept) × StandFor v (D.images disk.new) × AgreesWith r.0 v × (r.0.stable.0 ≡ stable_in v.records)) }
-        ensures fresh { IfOk result (λ r. (r.0.id ≡ id) × (r.0.role ≡ Other) × (r.0.begins ≡ 0) × (r.0.live ≡ None)) }
+        ensures fresh { IfOk result (λ r. (r.0.id ≡ id) × (r.0.role ≡ Other) × (r.0.front ≡ nothing no_epoch)) }
         ensures outcome { IfOk result (λ r. r.1 ≡ quiet r.0 None) }
         ensures corrupt { (area at : _) → IsErrOf result (recover_errors.Corrupt area at) → Each (D.images disk.new) (λ c. durable c ≡ Err (record { area = area; at = at })) }
         ensures durable { (result ≢ Err recover_errors.Disk) → (result ≢ Err recover_errors.NoMemory) → Only (D.seen disk.new) (D.images disk.new) }
@@ -80,7 +80,6 @@ impl Replica {
         let (log, durable) = LogStore::recover(alloc, disk, partition)?;
         let records = durable.records.as_slice();
         let shown = read(alloc, records)?;
-        let seen = shown.contents.clone()?;
         let replica = Replica {
             alloc,
             id,
@@ -91,11 +90,9 @@ impl Replica {
             stable: shown.stable,
             shown: shown.count,
             contents: shown.contents,
-            seen,
             ahead: shown.ahead,
             role: Role::Other,
-            begins: 0,
-            live: None,
+            front: Front::new(alloc, Epoch { loss: 0, number: 0 }),
         };
         let outcome = replica.quiet(None);
         Ok((replica, outcome))
@@ -115,10 +112,10 @@ impl Replica {
 
         requires may { MayStep self.old event.now }
         requires room { self.old.last.0 + 2 < 2 ^ 48 }
-        requires counted { self.old.begins + 1 < 2 ^ 64 }
+        requires counted { self.old.front.begins + 1 < 2 ^ 64 }
 
         ensures outcome { IfOk result (λ told. told ≡ outcome self.old event.now) }
-        ensures kept { OnOk result (self.new ≡ record (stepped self.old event.now) { log = self.new.log }) }
+        ensures kept { OnOk result (AreSame self.new (record (stepped self.old event.now) { log = self.new.log })) }
         ensures agrees { OnOk result ((v : Kept) → StandFor v (D.images disk.old) → AgreesWith self.old v → StandFor (after v (block self.old event.now)) (D.images disk.new) × AgreesWith self.new (after v (block self.old event.now))) }
         ensures opened { OnOk result (IsOpenOn self.new.log (D.images disk.new)) }
         ensures not_closed { OnOk result (self.new.log.log.closed ≡ false) }
@@ -129,10 +126,9 @@ impl Replica {
         ensures cause { Counted (D.faults disk.old) (D.faults disk.new) (IsErrOf result errors.Disk) }
         ensures marks { D.marks disk.new ≡ D.marks disk.old }
     {
-        let reply = self.told(event)?;
-        let bodies = self.logged(event, reply.as_ref())?;
+        let (reply, bodies) = self.answer(event)?;
         let count = bodies.len() as u64;
-        let mut block = self.placed(self.epoch_in(event), bodies)?;
+        let mut block = self.block(event, bodies)?;
         self.append(disk, &mut block)?;
         Ok(self.change(event, reply, count)?)
     }
@@ -190,12 +186,5 @@ impl Replica {
         ensures { result.now ≡ self.now.contents }
     {
         &self.contents
-    }
-
-    /// Whether no transaction goes on.
-    pub fn is_free(&self) -> bool
-        ensures { IsTrue result ↔ (self.now.live ≡ None) }
-    {
-        self.live.is_none()
     }
 }

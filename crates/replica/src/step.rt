@@ -9,13 +9,15 @@ use script_text::Call;
 pub enum StepEvent {
     /// A client's call.
     Client(Call),
+    /// A survey: it refuses epochs below this one from then on, and tells how far its log reaches. It is no primary then.
+    Survey { epoch: Epoch },
     /// The replica is appointed as the primary of an epoch, alone.
     Start { epoch: Epoch },
     /// Behind a step of a primary that became active or shows more: it logs its stable position.
     Barrier,
 }
 
-/// What a step tells: the answer to a call; the commits that are shown by it, in order; those that are acknowledged by
+/// What a step tells: the answer to a call or a survey; the commits that are shown by it, in order; those that are acknowledged by
 /// it; how many commits the replica shows then; whether it is an active primary; and whether a Barrier is to follow.
 #[derive(Debug, Drop)]
 pub struct Outcome {

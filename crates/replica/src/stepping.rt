@@ -1,28 +1,28 @@
 // The parts of a step: its answer, what it logs, and what it changes once that stands in the log.
-ghost use Rattle.std.specs.Prelude.{◌≡◌, ◌≢◌, ◌+◌, ◌<◌, ◌≤◌, ◌^◌, [], ◌∷◌, length, false, Some, None, IfOk, OnOk, IsErrOf};
+ghost use Rattle.std.specs.Prelude.{◌≡◌, ◌≢◌, ◌+◌, ◌<◌, ◌≤◌, ◌^◌, [], ◌∷◌, ◌++◌, length, false, None, IfOk, OnOk, IsErrOf};
 ghost use Rattle.std.specs.Option.{option_copied};
 ghost use Rattle.rc_base.specs.Counts.{Counted};
 ghost use Rattle.disk_model.specs.Disk.{Follows};
-ghost use Rattle.coll_model.specs.Effect.{folded};
-ghost use Rattle.log_records.specs.Spelling.{LogicalFits};
 ghost use Rattle.barrier_group.specs.Group.{spelled};
+ghost use Rattle.order_machine.specs.Answers as answers;
+ghost use Rattle.txn_front.specs.Front as fronts;
+ghost use Rattle.txn_front.specs.Front.{AreAlike, IsOver};
 ghost use Rattle.log_store.specs.declared.kept.Kept.{Kept};
 ghost use Rattle.log_store.specs.Durable.{StandFor, StandForOneOf, KeepsSlots};
 ghost use Rattle.log_store.specs.Growth.{GoesOn, after};
 ghost use Rattle.log_store.specs.Store.{IsOpenOn};
 ghost use Rattle.replica.specs.declared.error.StepError.TheVariants as errors;
 ghost use Rattle.replica.specs.declared.step.StepEvent.TheVariants as steps;
+ghost use Rattle.replica.specs.Logging as parts;
 ghost use Rattle.replica.specs.Logging.{IsReplyTo, AllFit};
-ghost use Rattle.replica.specs.Open.{Open, ops_going};
+ghost use Rattle.replica.specs.Open.{AreSame};
 ghost use Rattle.replica.specs.Step as spec;
 
 use crate::commits::Commits;
 use crate::effects::{apply_all, apply_commits};
 use crate::epochs::later;
 use crate::error::StepError;
-use crate::going::Going;
 use crate::replica::Replica;
-use crate::replies::{plain, reply_at};
 use crate::role::Role;
 use crate::step::{Outcome, StepEvent};
 use crate::txn_ids::TxnIds;
@@ -34,9 +34,26 @@ use log_records::{Physical, Record};
 use order_machine::{Observation, Reply};
 use rc_base::{Epoch, Lsn, NoMemory, TxnId};
 use script_text::Call;
-use std::alloc::Global;
 use std::mem;
+use txn_front::Front;
 use txn_table::Committed;
+
+// The transaction that a call names.
+fn txn_named(call: &Call) -> Option<TxnId>
+    ensures { result ≡ answers.txn_named call.now }
+{
+    match call {
+        Call::Begin => None,
+        Call::Make(txn, ..)
+        | Call::Get(txn, ..)
+        | Call::GetForUpdate(txn, ..)
+        | Call::Set(txn, ..)
+        | Call::Add(txn, ..)
+        | Call::Delete(txn, ..)
+        | Call::Commit(txn)
+        | Call::Abort(txn) => Some(*txn),
+    }
+}
 
 impl Replica {
     // Whether it is an active primary.
@@ -49,78 +66,65 @@ impl Replica {
         }
     }
 
-    fn goes_on(&self, txn: TxnId) -> bool
-        ensures { result ≡ spec.goes_on self.now.live txn }
-    {
-        self.live.as_ref().is_some_and(|going| txn == going.txn)
-    }
+    // ---- the answer, and what is logged
 
-    // The transaction that the next begin starts.
-    fn next_txn(&self) -> TxnId
-        requires { self.now.begins + 1 < 2 ^ 64 }
-        ensures { result ≡ spec.next_txn self.now }
-    {
-        TxnId {
-            epoch: self.epoch,
-            n: self.begins + 1,
-        }
-    }
-
-    // ---- the answer
-
-    // What the call of a step is answered; none where it is no call.
-    pub(crate) fn told(&self, event: &StepEvent) -> Result<Option<Reply>, NoMemory>
-        requires { self.now.begins + 1 < 2 ^ 64 }
-        ensures { IfOk result (IsReplyTo self.now event.now) }
+    // What the call of a step is answered, none where it is no call, and the records of the step. What goes on at a primary
+    // notes the call.
+    pub(crate) fn answer(
+        &mut self,
+        event: &StepEvent,
+    ) -> Result<(Option<Reply>, Vec<Record>), NoMemory>
+        requires over { IsOver self.old.front self.old.contents }
+        requires room { self.old.last.0 + 1 < 2 ^ 64 }
+        requires counted { self.old.front.begins + 1 < 2 ^ 64 }
+        ensures told { IfOk result (λ parts. IsReplyTo self.old event.now parts.0) }
+        ensures logged { IfOk result (λ parts. parts.1.items ≡ spec.logged self.old event.now) }
+        ensures others { self.new ≡ record self.old { front = self.new.front } }
+        ensures asked { OnOk result (AreAlike self.new.front (parts.asked self.old event.now)) }
     {
         match event {
-            StepEvent::Client(call) => self.reply(call),
-            StepEvent::Start { .. } | StepEvent::Barrier => Ok(None),
-        }
-    }
-
-    // What a call is answered. The commit of what goes on has no answer of its own.
-    fn reply(&self, call: &Call) -> Result<Option<Reply>, NoMemory>
-        requires { self.now.begins + 1 < 2 ^ 64 }
-        ensures { IfOk result (λ reply. reply ≡ spec.reply self.now call.now) }
-    {
-        if !self.is_active() {
-            return Ok(Some(plain(Observation::NotActive(self.id))));
-        }
-        match call {
-            Call::Begin => Ok(Some(plain(Observation::Txn(self.next_txn())))),
-            Call::Make(txn, ..) | Call::Get(txn, ..) | Call::Set(txn, ..) | Call::Commit(txn) => {
-                if self.goes_on(*txn) {
-                    reply_at(&self.seen, call)
-                } else {
-                    Ok(Some(plain(Observation::Ended(*txn))))
-                }
+            StepEvent::Client(call) => self.answer_call(call),
+            StepEvent::Survey { .. } => Ok((None, Vec::new(self.alloc))),
+            StepEvent::Start { epoch } => {
+                Ok((None, self.alone(Record::EpochStart { epoch: *epoch })?))
+            }
+            StepEvent::Barrier => {
+                let stable = self.stable;
+                Ok((None, self.alone(Record::Barrier { stable })?))
             }
         }
     }
 
-    // ---- what is logged
-
-    // The records of a step whose call, if it is one, has this answer.
-    pub(crate) fn logged(
-        &self,
-        event: &StepEvent,
-        reply: Option<&Reply>,
-    ) -> Result<Vec<Record>, NoMemory>
-        requires room { self.now.last.0 + 1 < 2 ^ 64 }
-        requires reply { IsReplyTo self.now event.now (option_copied reply) }
-        ensures { IfOk result (λ bodies. bodies.items ≡ spec.logged self.now event.now) }
+    #[tactic(auto, using(crate::proofs::Told::logged_last))]
+    fn answer_call(&mut self, call: &Call) -> Result<(Option<Reply>, Vec<Record>), NoMemory>
+        requires over { IsOver self.old.front self.old.contents }
+        requires room { self.old.last.0 + 1 < 2 ^ 64 }
+        requires counted { self.old.front.begins + 1 < 2 ^ 64 }
+        ensures told { IfOk result (λ parts. parts.0 ≡ spec.reply self.old call.now) }
+        ensures logged { IfOk result (λ parts. parts.1.items ≡ spec.logged_by self.old call.now) }
+        ensures others { self.new ≡ record self.old { front = self.new.front } }
+        ensures asked { OnOk result (AreAlike self.new.front (parts.asked self.old (steps.Client call.now))) }
     {
-        match event {
-            StepEvent::Client(_) => match &self.live {
-                Some(going) => self.logged_reply(going, reply),
-                None => Ok(Vec::new(self.alloc)),
-            },
-            StepEvent::Start { epoch } => self.alone(Record::EpochStart { epoch: *epoch }),
-            StepEvent::Barrier => self.alone(Record::Barrier {
-                stable: self.stable,
-            }),
+        if !self.is_active() {
+            let answer = Observation::NotActive(self.id);
+            return Ok((Some(Reply { answer, op: None }), Vec::new(self.alloc)));
         }
+        let last = self.last_named(call);
+        let reply = self.front.call(&self.contents, call)?;
+        let bodies = match last {
+            Some((txn, last)) => self.logged_call(txn, last, call, reply.as_ref())?,
+            None => Vec::new(self.alloc),
+        };
+        Ok((reply, bodies))
+    }
+
+    // The transaction of the call with the position of its last record, where it goes on.
+    fn last_named(&self, call: &Call) -> Option<(TxnId, Lsn)>
+        ensures { result ≡ parts.last_named self.now.front call.now }
+    {
+        let txn = txn_named(call)?;
+        let going = self.front.going(txn)?;
+        Some((txn, going.last()))
     }
 
     fn alone(&self, body: Record) -> Result<Vec<Record>, NoMemory>
@@ -131,86 +135,108 @@ impl Replica {
         Ok(bodies)
     }
 
-    // The records of a call of what goes on.
-    fn logged_reply(&self, going: &Going, reply: Option<&Reply>) -> Result<Vec<Record>, NoMemory>
+    // The records of a call with this answer, of a transaction whose last record stands here.
+    fn logged_call(
+        &self,
+        txn: TxnId,
+        last: Lsn,
+        call: &Call,
+        reply: Option<&Reply>,
+    ) -> Result<Vec<Record>, NoMemory>
         requires { self.now.last.0 + 1 < 2 ^ 64 }
-        ensures { IfOk result (λ bodies. bodies.items ≡ spec.logged_reply self.now.last (Some going.now) (option_copied reply.entry)) }
+        ensures { IfOk result (λ bodies. bodies.items ≡ spec.logged_call self.now.last txn (parts.logged_to last) call.now (option_copied reply.entry)) }
     {
-        match reply {
-            None => self.logged_end(going),
-            Some(reply) => match &reply.op {
-                None => Ok(Vec::new(self.alloc)),
-                Some(op) => self.logged_op(going, op),
+        match call {
+            Call::Commit(_) => self.logged_commit(txn, last),
+            Call::Abort(_) => self.logged_abort(txn, last),
+            _ => match reply {
+                Some(Reply { op: Some(op), .. }) => self.logged_op(txn, last, op),
+                _ => Ok(Vec::new(self.alloc)),
             },
         }
     }
 
-    fn logged_end(&self, going: &Going) -> Result<Vec<Record>, NoMemory>
+    fn logged_op(&self, txn: TxnId, last: Lsn, op: &Op) -> Result<Vec<Record>, NoMemory>
         requires { self.now.last.0 + 1 < 2 ^ 64 }
-        ensures { IfOk result (λ bodies. bodies.items ≡ spec.logged_end self.now.last going.now) }
+        ensures { IfOk result (λ bodies. bodies.items ≡ spec.logged_op self.now.last txn (parts.logged_to last) (Some op.now)) }
     {
-        let mut bodies = self.begin_due(going)?;
-        bodies.push(Record::End {
-            txn: going.txn,
-            prev: self.prev_of(going),
-            committed: true,
-        })?;
-        Ok(bodies)
-    }
-
-    fn logged_op(&self, going: &Going, op: &Op) -> Result<Vec<Record>, NoMemory>
-        requires { self.now.last.0 + 1 < 2 ^ 64 }
-        ensures { IfOk result (λ bodies. bodies.items ≡ spec.logged_op self.now.last going.now (Some op.now)) }
-    {
-        let mut bodies = self.begin_due(going)?;
+        let mut bodies = self.begin_due(txn, last)?;
         bodies.push(Record::Operation {
-            txn: going.txn,
-            prev: self.prev_of(going),
+            txn,
+            prev: self.prev_of(last),
             op: op.clone()?,
         })?;
         Ok(bodies)
     }
 
-    // A Begin, before the first record of what goes on.
-    fn begin_due(&self, going: &Going) -> Result<Vec<Record>, NoMemory>
-        ensures { IfOk result (λ bodies. bodies.items ≡ spec.begin_due going.now) }
+    fn logged_commit(&self, txn: TxnId, last: Lsn) -> Result<Vec<Record>, NoMemory>
+        requires { self.now.last.0 + 1 < 2 ^ 64 }
+        ensures { IfOk result (λ bodies. bodies.items ≡ spec.logged_commit self.now.last txn (parts.logged_to last)) }
     {
-        let mut bodies = Vec::new(self.alloc);
-        if going.last.0 == 0 {
-            bodies.push(Record::Begin { txn: going.txn })?;
-        }
+        let mut bodies = self.begin_due(txn, last)?;
+        bodies.push(Record::End {
+            txn,
+            prev: self.prev_of(last),
+            committed: true,
+        })?;
         Ok(bodies)
     }
 
-    // The position of the record of what goes on before the one that is logged next.
-    fn prev_of(&self, going: &Going) -> Lsn
-        requires { self.now.last.0 + 1 < 2 ^ 64 }
-        ensures { result ≡ spec.prev_of self.now.last going.now }
+    // An End, where the transaction has records.
+    fn logged_abort(&self, txn: TxnId, last: Lsn) -> Result<Vec<Record>, NoMemory>
+        ensures { IfOk result (λ bodies. bodies.items ≡ spec.logged_abort txn (parts.logged_to last)) }
     {
-        if going.last.0 == 0 {
+        if last.0 == 0 {
+            return Ok(Vec::new(self.alloc));
+        }
+        self.alone(Record::End {
+            txn,
+            prev: last,
+            committed: false,
+        })
+    }
+
+    // A Begin, before the first record of a transaction.
+    fn begin_due(&self, txn: TxnId, last: Lsn) -> Result<Vec<Record>, NoMemory>
+        ensures { IfOk result (λ bodies. bodies.items ≡ spec.begin_due txn (parts.logged_to last)) }
+    {
+        if last.0 == 0 {
+            self.alone(Record::Begin { txn })
+        } else {
+            Ok(Vec::new(self.alloc))
+        }
+    }
+
+    // The position of the transaction's record before the one that is logged next.
+    fn prev_of(&self, last: Lsn) -> Lsn
+        requires { self.now.last.0 + 1 < 2 ^ 64 }
+        ensures { result ≡ spec.prev_of self.now.last (parts.logged_to last) }
+    {
+        if last.0 == 0 {
             Lsn(self.last.0 + 1)
         } else {
-            going.last
+            last
         }
     }
 
     // The epoch in which it logs.
-    pub(crate) fn epoch_in(&self, event: &StepEvent) -> Epoch
+    fn epoch_in(&self, event: &StepEvent) -> Epoch
         ensures { result ≡ spec.epoch_in self.now event.now }
     {
         match event {
             StepEvent::Start { epoch } => *epoch,
-            StepEvent::Client(_) | StepEvent::Barrier => self.epoch,
+            StepEvent::Client(_) | StepEvent::Survey { .. } | StepEvent::Barrier => self.epoch,
         }
     }
 
-    // The block of these records.
-    pub(crate) fn placed(&self, epoch: Epoch, bodies: Vec<Record>) -> Result<Group, NoMemory>
+    // The block of a step with these records.
+    pub(crate) fn block(&self, event: &StepEvent, bodies: Vec<Record>) -> Result<Group, NoMemory>
         requires room { self.now.last.0 + length bodies.items < 2 ^ 64 }
         requires fit { AllFit bodies.items }
-        ensures { IfOk result (λ block. block ≡ spec.placed self.now.last.0 epoch bodies.items) }
+        ensures { IfOk result (λ block. block ≡ spec.fences self.now event.now ++ spec.placed self.now.last.0 (spec.epoch_in self.now event.now) bodies.items) }
     {
-        let mut block = Group::new(self.alloc);
+        let mut block = self.fences(event)?;
+        let epoch = self.epoch_in(event);
         let mut last = self.last.0;
         for body in bodies {
             last += 1;
@@ -219,6 +245,19 @@ impl Replica {
                 epoch,
                 body,
             })?;
+        }
+        Ok(block)
+    }
+
+    // A survey raises the fence.
+    fn fences(&self, event: &StepEvent) -> Result<Group, NoMemory>
+        ensures { IfOk result (λ block. block ≡ spec.fences self.now event.now) }
+    {
+        let mut block = Group::new(self.alloc);
+        if let StepEvent::Survey { epoch } = event
+            && self.fence < *epoch
+        {
+            block.push(Physical::Fence { epoch: *epoch })?;
         }
         Ok(block)
     }
@@ -263,30 +302,30 @@ impl Replica {
         requires { self.old.last.0 + count < 2 ^ 64 }
         ensures { self.new ≡ spec.lengthened count epoch self.old }
     {
+        if count == 0 {
+            return;
+        }
         self.fence = later(self.fence, epoch);
         self.epoch = epoch;
         self.last = Lsn(self.last.0 + count);
         self.stable = self.last;
     }
 
-    // A step with this answer logged so many records.
+    // A step logged so many records, and its call has this answer.
     pub(crate) fn change(
         &mut self,
         event: &StepEvent,
         reply: Option<Reply>,
         count: u64,
     ) -> Result<Outcome, NoMemory>
-        requires reply { IsReplyTo self.old event.now reply }
-        requires count { count ≡ length (spec.logged self.old event.now) }
-        requires room { self.old.last.0 + count < 2 ^ 64 }
-        requires begins { self.old.begins + 1 < 2 ^ 64 }
+        requires room { (self.old.last.0 + count < 2 ^ 64) × (self.old.last.0 + 1 < 2 ^ 64) }
         requires shown { self.old.shown + length self.old.ahead + 1 < 2 ^ 64 }
-        requires seen { folded self.old.contents (ops_going self.old.live) ≡ self.old.seen }
-        ensures kept { OnOk result (self.new ≡ spec.stepped self.old event.now) }
-        ensures outcome { IfOk result (λ told. told ≡ spec.outcome self.old event.now) }
+        ensures kept { OnOk result (AreSame self.new (parts.changed count self.old event.now)) }
+        ensures told { IfOk result (λ told. told ≡ parts.told_then self.old event.now reply) }
     {
         match event {
             StepEvent::Client(call) => self.called(call, reply, count),
+            StepEvent::Survey { epoch } => Ok(self.surveyed(*epoch)),
             StepEvent::Start { epoch } => self.started(*epoch),
             StepEvent::Barrier => Ok(self.held()),
         }
@@ -294,75 +333,58 @@ impl Replica {
 
     // A call with this answer logged so many records.
     fn called(&mut self, call: &Call, reply: Option<Reply>, count: u64) -> Result<Outcome, NoMemory>
-        requires reply { reply ≡ spec.reply self.old call.now }
-        requires count { count ≡ length (spec.logged self.old (steps.Client call.now)) }
         requires room { self.old.last.0 + count < 2 ^ 64 }
-        requires counted { (self.old.begins + 1 < 2 ^ 64) × (self.old.shown + 1 < 2 ^ 64) }
-        requires seen { folded self.old.contents (ops_going self.old.live) ≡ self.old.seen }
-        ensures kept { OnOk result (self.new ≡ spec.called self.old call.now) }
-        ensures outcome { IfOk result (λ told. told ≡ spec.outcome self.old (steps.Client call.now)) }
+        requires shown { self.old.shown + 1 < 2 ^ 64 }
+        ensures kept { OnOk result (AreSame self.new (parts.changed count self.old (steps.Client call.now))) }
+        ensures told { IfOk result (λ told. told ≡ parts.told_then self.old (steps.Client call.now) reply) }
     {
-        let Some(reply) = reply else {
-            return self.committed(count);
-        };
-        let outcome = self.quiet(Some(reply.answer));
-        match reply.op {
-            Some(op) => self.operated(op, count)?,
-            None => {
-                if matches!(call, Call::Begin) && self.is_active() {
-                    self.began();
-                }
+        let answer = reply.map(|reply| reply.answer);
+        if !self.is_active() {
+            return Ok(self.quiet(answer));
+        }
+        match call {
+            Call::Commit(txn) => self.committed(*txn, answer, count),
+            Call::Abort(txn) => {
+                self.aborted(*txn, count);
+                Ok(self.quiet(answer))
+            }
+            _ => {
+                self.noted(call, count);
+                Ok(self.quiet(answer))
             }
         }
-        Ok(outcome)
     }
 
-    // A transaction begins.
-    fn began(&mut self)
-        requires { self.old.begins + 1 < 2 ^ 64 }
-        ensures { self.new ≡ spec.began self.old }
-    {
-        let txn = self.next_txn();
-        self.begins = txn.n;
-        self.live = Some(Going {
-            txn,
-            last: Lsn(0),
-            ops: Ops::new(self.alloc),
-        });
-    }
-
-    // An operation was logged.
-    fn operated(&mut self, op: Op, count: u64) -> Result<(), NoMemory>
-        requires { self.old.last.0 + count < 2 ^ 64 }
-        ensures { OnOk result (self.new ≡ spec.operated count op self.old) }
-    {
-        self.lengthen(count, self.epoch);
-        self.seen.apply(&op)?;
-        let last = self.last;
-        if let Some(going) = &mut self.live {
-            going.last = last;
-            going.ops.push(op)?;
-        }
-        Ok(())
-    }
-
-    // What goes on was committed: it is shown.
-    fn committed(&mut self, count: u64) -> Result<Outcome, NoMemory>
+    // The transaction logged so many records, the last of which is its commit: it is shown. Where it doesn't go on, this is
+    // the answer.
+    fn committed(
+        &mut self,
+        txn: TxnId,
+        answer: Option<Observation>,
+        count: u64,
+    ) -> Result<Outcome, NoMemory>
         requires room { self.old.last.0 + count < 2 ^ 64 }
-        requires counted { self.old.shown + 1 < 2 ^ 64 }
-        requires seen { folded self.old.contents (ops_going self.old.live) ≡ self.old.seen }
-        ensures kept { OnOk result (self.new ≡ spec.committed count self.old) }
-        ensures outcome { IfOk result (λ told. told ≡ spec.shown_commit self.old) }
+        requires shown { self.old.shown + 1 < 2 ^ 64 }
+        ensures kept { OnOk result (AreSame self.new (parts.committed count txn self.old)) }
+        ensures told { IfOk result (λ told. told ≡ parts.told_commit self.old txn answer) }
+    {
+        let Some(ops) = self.front.end(txn) else {
+            return Ok(self.quiet(answer));
+        };
+        self.lengthen(count, self.epoch);
+        self.shown += 1;
+        apply_all(&mut self.contents, ops.as_slice())?;
+        self.shown_commit(txn, ops)
+    }
+
+    // A commit was shown.
+    fn shown_commit(&self, txn: TxnId, ops: Ops) -> Result<Outcome, NoMemory>
+        ensures { IfOk result (λ told. told ≡ parts.shown_one self.now.shown txn ops) }
     {
         let mut commits = Commits::new(self.alloc);
         let mut acknowledged = TxnIds::new(self.alloc);
-        self.lengthen(count, self.epoch);
-        self.shown += 1;
-        if let Some(Going { txn, ops, .. }) = self.live.take() {
-            apply_all(&mut self.contents, ops.as_slice())?;
-            commits.push(Committed { txn, ops })?;
-            acknowledged.push(txn)?;
-        }
+        commits.push(Committed { txn, ops })?;
+        acknowledged.push(txn)?;
         Ok(Outcome {
             answer: None,
             commits,
@@ -373,27 +395,59 @@ impl Replica {
         })
     }
 
+    // The transaction logged so many records, the last of which is its end.
+    fn aborted(&mut self, txn: TxnId, count: u64)
+        requires { self.old.last.0 + count < 2 ^ 64 }
+        ensures { AreSame self.new (record (spec.lengthened count self.old.epoch self.old) { front = fronts.ended self.old.front txn }) }
+    {
+        self.lengthen(count, self.epoch);
+        let _ = self.front.end(txn);
+    }
+
+    // The call logged so many records, the last of which is its transaction's last one.
+    fn noted(&mut self, call: &Call, count: u64)
+        requires { self.old.last.0 + count < 2 ^ 64 }
+        ensures { self.new ≡ record (spec.lengthened count self.old.epoch self.old) { front = spec.noted count call.now (spec.behind self.old.last count) self.old.front } }
+    {
+        if count == 0 {
+            return;
+        }
+        self.lengthen(count, self.epoch);
+        if let Some(txn) = txn_named(call) {
+            self.front.logged(txn, self.last);
+        }
+    }
+
+    // A survey of an epoch: the fence was raised to it.
+    fn surveyed(&mut self, epoch: Epoch) -> Outcome
+        ensures kept { self.new ≡ spec.surveyed epoch self.old }
+        ensures told { result ≡ spec.outcome self.old (steps.Survey epoch) }
+    {
+        if epoch < self.fence {
+            return self.quiet(Some(Observation::IgnoredOldEpoch(self.fence, epoch)));
+        }
+        self.fence = later(self.fence, epoch);
+        self.role = Role::Other;
+        self.front = Front::new(self.alloc, Epoch { loss: 0, number: 0 });
+        self.quiet(Some(Observation::Progress(self.id, self.epoch, self.last.0)))
+    }
+
     // An epoch was started: what its log commits is shown.
     fn started(&mut self, epoch: Epoch) -> Result<Outcome, NoMemory>
         requires room { self.old.last.0 + 1 < 2 ^ 64 }
         requires counted { self.old.shown + length self.old.ahead < 2 ^ 64 }
-        requires seen { folded self.old.contents (ops_going self.old.live) ≡ self.old.seen }
         ensures kept { OnOk result (self.new ≡ spec.started epoch self.old) }
-        ensures outcome { IfOk result (λ told. told ≡ spec.outcome self.old (steps.Start epoch)) }
+        ensures told { IfOk result (λ told. told ≡ spec.outcome self.old (steps.Start epoch)) }
     {
         let ahead = mem::replace(&mut self.ahead, Commits::new(self.alloc));
-        if self.live.take().is_some() {
-            self.seen = self.contents.clone()?;
-        }
         apply_commits(&mut self.contents, ahead.as_slice())?;
-        apply_commits(&mut self.seen, ahead.as_slice())?;
         self.lengthen(1, epoch);
         self.shown += ahead.as_slice().len() as u64;
         self.role = Role::Primary {
             epoch,
             active: true,
         };
-        self.begins = 0;
+        self.front = Front::new(self.alloc, epoch);
         Ok(Outcome {
             answer: None,
             commits: ahead,
@@ -408,7 +462,7 @@ impl Replica {
     fn held(&mut self) -> Outcome
         requires { self.old.last.0 + 1 < 2 ^ 64 }
         ensures kept { self.new ≡ spec.stepped self.old steps.Barrier }
-        ensures outcome { result ≡ spec.outcome self.old steps.Barrier }
+        ensures told { result ≡ spec.outcome self.old steps.Barrier }
     {
         self.lengthen(1, self.epoch);
         self.quiet(None)

@@ -4,21 +4,25 @@ use Rattle.std.specs.Prelude.{IsTrue}
 use Rattle.std.proofs.lemmas.Fmt.{decimal_injective}
 use Rattle.std.specs.List.{slice_split, list_all}
 use Rattle.std.proofs.lemmas.Bool.{ne_eqb, false≢true}
+use Rattle.rc_base.specs.declared.ids.Epoch.{Epoch}
 use Rattle.rc_base.specs.declared.ids.TxnId.{TxnId}
 use Rattle.rc_base.specs.Names.{is_name_letter, is_name}
 use Rattle.coll_model.specs.declared.op.Kind.{Kind}
 use Rattle.coll_model.specs.declared.op.Kind.TheVariants as kinds
 use Rattle.script_text.specs.declared.event.Event.{Event}
-use Rattle.script_text.specs.declared.event.Event.TheVariants.{Boot, Client, Arm, Crash, Reboot, Inspect}
+use Rattle.script_text.specs.declared.event.Event.TheVariants.{Boot, Client, Arm, Crash, Reboot, Inspect, Survey, Appoint, Activate}
 use Rattle.script_text.specs.declared.event.Call.{Call}
 use Rattle.script_text.specs.declared.event.Call.TheVariants as calls
 use Rattle.script_text.specs.Letters.{is_key_letter, is_key_word, is_value_word}
-use Rattle.script_text.specs.Sentence.{words_at, words_of, txn_text, kind_text, members_text, IsTxn, IsBuiltTxn, IsBuiltCall, IsBuilt, Spells}
-use Rattle.script_text.specs.Reading.{txn_parts, IsSentence}
+use Rattle.script_text.specs.Sentence.{words_at, words_of, txn_text, kind_text, members_text, IsEpoch, IsTxn, IsBuiltTxn, IsBuiltCall, IsBuilt, Spells}
+use Rattle.script_text.specs.Reading.{epoch_parts, txn_parts, IsSentence}
 use Rattle.script_text.proofs.Numbers.{Lacks, Lacks-decimal}
 use Rattle.script_text.proofs.Parts.{AllLack, Lacks-joined, joined_from_parts, parts_from_joined}
 
--- a transaction's parts hold no byte below the digits
+-- the parts of an epoch and of a transaction hold no byte below the digits
+pub AllLack-epoch_parts : (c : ℕ) (e : Epoch) → c < 48 → IsEpoch e → AllLack c (epoch_parts e)
+AllLack-epoch_parts c e low is = (Lacks-decimal c e.loss low (omega arith), (Lacks-decimal c e.number low (omega arith), tt))
+
 pub AllLack-txn_parts : (c : ℕ) (t : TxnId) → c < 48 → IsTxn t → AllLack c (txn_parts t)
 AllLack-txn_parts c t low is = (
   Lacks-decimal c t.epoch.loss low (omega arith),
@@ -83,9 +87,14 @@ AllLack-call : (r : ℕ) (call : Call) → r ≡ 0 → IsBuiltCall call → AllL
 AllLack-call r calls.Begin zero is = (search rules, (Lacks-zero r zero, tt))
 AllLack-call r (calls.Make t name kind) zero is = (search rules, (Lacks-zero r zero, (Lacks-txn t is.0, (Lacks-name name is.1, (Lacks-kind kind, tt)))))
 AllLack-call r (calls.Get t name key) zero is = (search rules, (Lacks-zero r zero, (Lacks-txn t is.0, (Lacks-name name is.1, (Lacks-key key is.2, tt)))))
+AllLack-call r (calls.GetForUpdate t name key) zero is = (search rules, (Lacks-zero r zero, (Lacks-txn t is.0, (Lacks-name name is.1, (Lacks-key key is.2, tt)))))
 AllLack-call r (calls.Set t name key value) zero is =
     (search rules, (Lacks-zero r zero, (Lacks-txn t is.0, (Lacks-name name is.1, (Lacks-key key is.2, (Lacks-value value is.3, tt))))))
+AllLack-call r (calls.Add t name key value) zero is =
+    (search rules, (Lacks-zero r zero, (Lacks-txn t is.0, (Lacks-name name is.1, (Lacks-key key is.2, (Lacks-value value is.3, tt))))))
+AllLack-call r (calls.Delete t name key) zero is = (search rules, (Lacks-zero r zero, (Lacks-txn t is.0, (Lacks-name name is.1, (Lacks-key key is.2, tt)))))
 AllLack-call r (calls.Commit t) zero is = (search rules, (Lacks-zero r zero, (Lacks-txn t is, tt)))
+AllLack-call r (calls.Abort t) zero is = (search rules, (Lacks-zero r zero, (Lacks-txn t is, tt)))
 
 AllLack-words : (event : Event) → IsBuilt event → AllLack 32 (words_of event)
 AllLack-words (Boot p members) is = (search rules, (Lacks-zero p is.0, (one_member members is.1, tt))) where
@@ -96,6 +105,9 @@ AllLack-words (Arm r calls) is = (search rules, (Lacks-zero r is.0, (Lacks-decim
 AllLack-words (Crash r pick) is = (search rules, (Lacks-zero r is.0, (Lacks-decimal 32 pick (lit< tt) is.1, tt)))
 AllLack-words (Reboot r) is = (search rules, (Lacks-zero r is, tt))
 AllLack-words (Inspect r) is = (search rules, (Lacks-zero r is, tt))
+AllLack-words (Survey r e) is = absurd is
+AllLack-words (Appoint e p members) is = absurd is
+AllLack-words (Activate e) is = absurd is
 
 some_words_at : (r : ℕ) (call : Call) → 0 < length (words_at r call)
 some_words_at r call = grind arith
@@ -107,6 +119,9 @@ some_words (Arm r calls) = lit< tt
 some_words (Crash r pick) = lit< tt
 some_words (Reboot r) = lit< tt
 some_words (Inspect r) = lit< tt
+some_words (Survey r e) = lit< tt
+some_words (Appoint e p members) = lit< tt
+some_words (Activate e) = lit< tt
 
 -- ---- lines and their words
 
@@ -149,9 +164,16 @@ same_call r (calls.Make t name kind) (calls.Make u other sort) is_a is_b e =
     let same = same_built t u is_a.0 is_b.0 cc in cc
 same_call r (calls.Get t name key) (calls.Get u other at) is_a is_b e =
     let same = same_built t u is_a.0 is_b.0 cc in cc
+same_call r (calls.GetForUpdate t name key) (calls.GetForUpdate u other at) is_a is_b e =
+    let same = same_built t u is_a.0 is_b.0 cc in cc
 same_call r (calls.Set t name key value) (calls.Set u other at given) is_a is_b e =
     let same = same_built t u is_a.0 is_b.0 cc in cc
+same_call r (calls.Add t name key value) (calls.Add u other at given) is_a is_b e =
+    let same = same_built t u is_a.0 is_b.0 cc in cc
+same_call r (calls.Delete t name key) (calls.Delete u other at) is_a is_b e =
+    let same = same_built t u is_a.0 is_b.0 cc in cc
 same_call r (calls.Commit t) (calls.Commit u) is_a is_b e = ap calls.Commit (same_built t u is_a is_b cc)
+same_call r (calls.Abort t) (calls.Abort u) is_a is_b e = ap calls.Abort (same_built t u is_a is_b cc)
 same_call r _ _ is_a is_b e = grind arith
 
 same_event : (a b : Event) → IsBuilt a → IsBuilt b → words_of a ≡ words_of b → a ≡ b
@@ -179,6 +201,12 @@ same_event (Client r call) (Arm q n) is_a is_b e = absurd (no_arm q n r call (sy
 same_event (Client r call) (Crash q n) is_a is_b e = absurd (no_crash q n r call (sym e))
 same_event (Client r call) (Reboot q) is_a is_b e = absurd (no_reboot q r call (sym e))
 same_event (Client r call) (Inspect q) is_a is_b e = absurd (no_inspect q r call (sym e))
+same_event (Survey r e) b is_a is_b same = absurd is_a
+same_event (Appoint e p members) b is_a is_b same = absurd is_a
+same_event (Activate e) b is_a is_b same = absurd is_a
+same_event a (Survey r e) is_a is_b same = absurd is_b
+same_event a (Appoint e p members) is_a is_b same = absurd is_b
+same_event a (Activate e) is_a is_b same = absurd is_b
 same_event _ _ is_a is_b e = cc
 
 pub same_from_line : (line : List ℕ) (a b : Event) → Spells line a → Spells line b → a ≡ b

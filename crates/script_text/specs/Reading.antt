@@ -1,6 +1,7 @@
 -- What words are read as. Each answer is exact: the value whose text it is, or none where it is the text of no value.
 use Rattle.std.specs.Prelude.{◌≡◌, ℕ, List, [], ◌∷◌, map, decimal, Option, MatchOption}
 use Rattle.std.specs.Borrow.{Bor}
+use Rattle.rc_base.specs.declared.ids.Epoch.{Epoch}
 use Rattle.rc_base.specs.declared.ids.TxnId.{TxnId}
 use Rattle.script_text.specs.declared.event.Event.{Event}
 use Rattle.script_text.specs.declared.event.Call.{Call}
@@ -10,7 +11,10 @@ use Rattle.script_text.specs.Sentence.{words_at, words_of, IsBuilt, IsBuiltCall}
 abbrev pub texts : List (Bor (List ℕ)) → List (List ℕ)
 texts slices = map (λ slice. slice.now) slices
 
--- the parts of a transaction's text, without the full stops
+-- the parts of an epoch's text and of a transaction's, without the full stops
+abbrev pub epoch_parts : Epoch → List (List ℕ)
+epoch_parts e = decimal e.loss ∷ decimal e.number ∷ []
+
 abbrev pub txn_parts : TxnId → List (List ℕ)
 txn_parts t = decimal t.epoch.loss ∷ decimal t.epoch.number ∷ decimal t.n ∷ []
 

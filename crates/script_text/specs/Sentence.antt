@@ -8,7 +8,7 @@ use Rattle.rc_base.specs.Names.{is_name}
 use Rattle.coll_model.specs.declared.op.Kind.{Kind}
 use Rattle.coll_model.specs.declared.op.Kind.TheVariants as kinds
 use Rattle.script_text.specs.declared.event.Event.{Event}
-use Rattle.script_text.specs.declared.event.Event.TheVariants.{Boot, Client, Arm, Crash, Reboot, Inspect}
+use Rattle.script_text.specs.declared.event.Event.TheVariants.{Boot, Client, Arm, Crash, Reboot, Inspect, Survey, Appoint, Activate}
 use Rattle.script_text.specs.declared.event.Call.{Call}
 use Rattle.script_text.specs.declared.event.Call.TheVariants as calls
 use Rattle.script_text.specs.Letters.{is_key_word, is_value_word}
@@ -37,8 +37,12 @@ abbrev pub words_at : ℕ → Call → List (List ℕ)
 words_at r calls.Begin = codes "begin" ∷ decimal r ∷ []
 words_at r (calls.Make t name kind) = codes "make" ∷ decimal r ∷ txn_text t ∷ name ∷ kind_text kind ∷ []
 words_at r (calls.Get t name key) = codes "get" ∷ decimal r ∷ txn_text t ∷ name ∷ key ∷ []
+words_at r (calls.GetForUpdate t name key) = codes "getu" ∷ decimal r ∷ txn_text t ∷ name ∷ key ∷ []
 words_at r (calls.Set t name key value) = codes "set" ∷ decimal r ∷ txn_text t ∷ name ∷ key ∷ value ∷ []
+words_at r (calls.Add t name key value) = codes "add" ∷ decimal r ∷ txn_text t ∷ name ∷ key ∷ value ∷ []
+words_at r (calls.Delete t name key) = codes "del" ∷ decimal r ∷ txn_text t ∷ name ∷ key ∷ []
 words_at r (calls.Commit t) = codes "commit" ∷ decimal r ∷ txn_text t ∷ []
+words_at r (calls.Abort t) = codes "abort" ∷ decimal r ∷ txn_text t ∷ []
 
 -- the words of an event's sentence
 abbrev pub words_of : Event → List (List ℕ)
@@ -48,6 +52,9 @@ words_of (Arm r calls) = codes "arm" ∷ decimal r ∷ decimal calls ∷ []
 words_of (Crash r pick) = codes "crash" ∷ decimal r ∷ decimal pick ∷ []
 words_of (Reboot r) = codes "reboot" ∷ decimal r ∷ []
 words_of (Inspect r) = codes "inspect" ∷ decimal r ∷ []
+words_of (Survey r e) = codes "survey" ∷ decimal r ∷ epoch_text e ∷ []
+words_of (Appoint e p members) = codes "appoint" ∷ epoch_text e ∷ decimal p ∷ members_text members ∷ []
+words_of (Activate e) = codes "activate" ∷ epoch_text e ∷ []
 
 -- 32 is a space
 abbrev pub text_of : Event → List ℕ
@@ -70,11 +77,15 @@ abbrev pub IsBuiltCall : Call → Type 0
 IsBuiltCall calls.Begin = Unit {0}
 IsBuiltCall (calls.Make t name kind) = IsBuiltTxn t × IsTrue (is_name name) × (kind ≡ kinds.Dict)
 IsBuiltCall (calls.Get t name key) = IsBuiltTxn t × IsTrue (is_name name) × IsTrue (is_key_word key)
+IsBuiltCall (calls.GetForUpdate t name key) = IsBuiltTxn t × IsTrue (is_name name) × IsTrue (is_key_word key)
 IsBuiltCall (calls.Set t name key value) = IsBuiltTxn t × IsTrue (is_name name) × IsTrue (is_key_word key) × IsTrue (is_value_word value)
+IsBuiltCall (calls.Add t name key value) = IsBuiltTxn t × IsTrue (is_name name) × IsTrue (is_key_word key) × IsTrue (is_value_word value)
+IsBuiltCall (calls.Delete t name key) = IsBuiltTxn t × IsTrue (is_name name) × IsTrue (is_key_word key)
 IsBuiltCall (calls.Commit t) = IsBuiltTxn t
+IsBuiltCall (calls.Abort t) = IsBuiltTxn t
 
 -- Replica 0 is the one there is, and alone in its configuration. A disk is armed for its first later call, or one behind
--- it.
+-- it. Surveys, appointments and activations are not built yet.
 abbrev pub IsBuilt : Event → Type 0
 IsBuilt (Boot p members) = (p ≡ 0) × (members ≡ 0 ∷ [])
 IsBuilt (Client r call) = (r ≡ 0) × IsBuiltCall call
@@ -82,6 +93,9 @@ IsBuilt (Arm r calls) = (r ≡ 0) × (1 ≤ calls) × (calls < 2 ^ 64)
 IsBuilt (Crash r pick) = (r ≡ 0) × (pick < 2 ^ 64)
 IsBuilt (Reboot r) = r ≡ 0
 IsBuilt (Inspect r) = r ≡ 0
+IsBuilt (Survey r e) = ⊥
+IsBuilt (Appoint e p members) = ⊥
+IsBuilt (Activate e) = ⊥
 
 -- ---- lines
 

@@ -19,8 +19,12 @@ pub(crate) fn call_of(
         verb if verb == b"begin".as_slice() => Ok(begin(operands)),
         verb if verb == b"make".as_slice() => make(alloc, operands),
         verb if verb == b"get".as_slice() => get(alloc, operands),
+        verb if verb == b"getu".as_slice() => get_for_update(alloc, operands),
         verb if verb == b"set".as_slice() => set(alloc, operands),
+        verb if verb == b"add".as_slice() => add(alloc, operands),
+        verb if verb == b"del".as_slice() => delete(alloc, operands),
         verb if verb == b"commit".as_slice() => commit(alloc, operands),
+        verb if verb == b"abort".as_slice() => abort(alloc, operands),
         _ => Ok(None),
     }
 }
@@ -61,6 +65,19 @@ fn get(alloc: Global, operands: &[&[u8]]) -> Result<Option<Call>, NoMemory>
     Ok(Some(Call::Get(t, name, key)))
 }
 
+// `getu R T NAME KEY`.
+fn get_for_update(alloc: Global, operands: &[&[u8]]) -> Result<Option<Call>, NoMemory>
+    ensures { IfOk result (AreReadAsCall (codes "getu") (texts operands.now)) }
+{
+    let [t, name, key] = operands else {
+        return Ok(None);
+    };
+    let Some((t, name, key)) = at_key(alloc, t, name, key)? else {
+        return Ok(None);
+    };
+    Ok(Some(Call::GetForUpdate(t, name, key)))
+}
+
 // `set R T NAME KEY VALUE`.
 fn set(alloc: Global, operands: &[&[u8]]) -> Result<Option<Call>, NoMemory>
     ensures { IfOk result (AreReadAsCall (codes "set") (texts operands.now)) }
@@ -77,6 +94,35 @@ fn set(alloc: Global, operands: &[&[u8]]) -> Result<Option<Call>, NoMemory>
     Ok(Some(Call::Set(t, name, key, value)))
 }
 
+// `add R T NAME KEY VALUE`.
+fn add(alloc: Global, operands: &[&[u8]]) -> Result<Option<Call>, NoMemory>
+    ensures { IfOk result (AreReadAsCall (codes "add") (texts operands.now)) }
+{
+    let [t, name, key, value] = operands else {
+        return Ok(None);
+    };
+    let Some((t, name, key)) = at_key(alloc, t, name, key)? else {
+        return Ok(None);
+    };
+    let Some(value) = value_of(alloc, value)? else {
+        return Ok(None);
+    };
+    Ok(Some(Call::Add(t, name, key, value)))
+}
+
+// `del R T NAME KEY`.
+fn delete(alloc: Global, operands: &[&[u8]]) -> Result<Option<Call>, NoMemory>
+    ensures { IfOk result (AreReadAsCall (codes "del") (texts operands.now)) }
+{
+    let [t, name, key] = operands else {
+        return Ok(None);
+    };
+    let Some((t, name, key)) = at_key(alloc, t, name, key)? else {
+        return Ok(None);
+    };
+    Ok(Some(Call::Delete(t, name, key)))
+}
+
 // `commit R T`.
 fn commit(alloc: Global, operands: &[&[u8]]) -> Result<Option<Call>, NoMemory>
     ensures { IfOk result (AreReadAsCall (codes "commit") (texts operands.now)) }
@@ -88,4 +134,17 @@ fn commit(alloc: Global, operands: &[&[u8]]) -> Result<Option<Call>, NoMemory>
         return Ok(None);
     };
     Ok(Some(Call::Commit(t)))
+}
+
+// `abort R T`.
+fn abort(alloc: Global, operands: &[&[u8]]) -> Result<Option<Call>, NoMemory>
+    ensures { IfOk result (AreReadAsCall (codes "abort") (texts operands.now)) }
+{
+    let [t] = operands else {
+        return Ok(None);
+    };
+    let Some(t) = built_txn(alloc, t)? else {
+        return Ok(None);
+    };
+    Ok(Some(Call::Abort(t)))
 }

@@ -1,4 +1,5 @@
 use super::*;
+use crate::words::epoch;
 use coll_model::Kind;
 use rc_base::TxnId;
 use std::alloc::Global;
@@ -10,13 +11,17 @@ fn is_first(t: &TxnId) -> bool {
 }
 
 #[test]
-fn boot_begin_and_commit(rt: HostRuntime) -> Result<(), Fail> {
+fn boot_and_ends_of_transactions(rt: HostRuntime) -> Result<(), Fail> {
     let boot = read_event(rt.alloc(), b"boot 0 0")?;
     assert!(rt;
         matches!(&boot, Some(Event::Boot(p, members)) if p.number() == 0 && members.as_slice().len() == 1)
     );
     let begin = read_event(rt.alloc(), b"begin 0")?;
     assert!(rt; matches!(&begin, Some(Event::Client(r, Call::Begin)) if r.number() == 0));
+    let abort = read_event(rt.alloc(), b"abort 0 0.1.1")?;
+    assert!(rt;
+        matches!(&abort, Some(Event::Client(r, Call::Abort(t))) if r.number() == 0 && is_first(t))
+    );
     let commit = read_event(rt.alloc(), b"commit 0 0.4294967295.18446744073709551615")?;
     assert!(rt;
         matches!(&commit, Some(Event::Client(r, Call::Commit(t))) if r.number() == 0
@@ -41,6 +46,26 @@ fn calls_in_a_dictionary(rt: HostRuntime) -> Result<(), Fail> {
     assert!(rt;
         matches!(&set, Some(Event::Client(r, Call::Set(t, name, key, value))) if r.number() == 0
         && is_first(t) && name.as_slice() == b"d".as_slice() && key.as_slice() == b"k".as_slice() && value.as_slice() == b"Az.1".as_slice())
+    );
+    Ok(())
+}
+
+#[test]
+fn calls_under_locks(rt: HostRuntime) -> Result<(), Fail> {
+    let get = read_event(rt.alloc(), b"getu 0 0.1.1 d k")?;
+    assert!(rt;
+        matches!(&get, Some(Event::Client(r, Call::GetForUpdate(t, name, key))) if r.number() == 0
+        && is_first(t) && name.as_slice() == b"d".as_slice() && key.as_slice() == b"k".as_slice())
+    );
+    let add = read_event(rt.alloc(), b"add 0 0.1.1 d k v")?;
+    assert!(rt;
+        matches!(&add, Some(Event::Client(r, Call::Add(t, name, key, value))) if r.number() == 0
+        && is_first(t) && name.as_slice() == b"d".as_slice() && key.as_slice() == b"k".as_slice() && value.as_slice() == b"v".as_slice())
+    );
+    let delete = read_event(rt.alloc(), b"del 0 0.1.1 d k")?;
+    assert!(rt;
+        matches!(&delete, Some(Event::Client(r, Call::Delete(t, name, key))) if r.number() == 0
+        && is_first(t) && name.as_slice() == b"d".as_slice() && key.as_slice() == b"k".as_slice())
     );
     Ok(())
 }
@@ -87,10 +112,40 @@ fn longest_words(rt: HostRuntime) -> Result<(), Fail> {
     assert!(rt; !is_sentence(alloc, "make 0 0.1.1 ", "n", 65, " dict")?);
     assert!(rt; is_sentence(alloc, "get 0 0.1.1 d ", "k", 128, "")?);
     assert!(rt; !is_sentence(alloc, "get 0 0.1.1 d ", "k", 129, "")?);
+    assert!(rt; is_sentence(alloc, "getu 0 0.1.1 d ", "k", 128, "")?);
+    assert!(rt; !is_sentence(alloc, "getu 0 0.1.1 d ", "k", 129, "")?);
+    assert!(rt; is_sentence(alloc, "del 0 0.1.1 d ", "k", 128, "")?);
+    assert!(rt; !is_sentence(alloc, "del 0 0.1.1 d ", "k", 129, "")?);
     assert!(rt; is_sentence(alloc, "set 0 0.1.1 d ", "k", 128, " v")?);
     assert!(rt; !is_sentence(alloc, "set 0 0.1.1 d ", "k", 129, " v")?);
     assert!(rt; is_sentence(alloc, "set 0 0.1.1 d k ", "v", 1024, "")?);
     assert!(rt; !is_sentence(alloc, "set 0 0.1.1 d k ", "v", 1025, "")?);
+    assert!(rt; is_sentence(alloc, "add 0 0.1.1 d ", "k", 128, " v")?);
+    assert!(rt; !is_sentence(alloc, "add 0 0.1.1 d ", "k", 129, " v")?);
+    assert!(rt; is_sentence(alloc, "add 0 0.1.1 d k ", "v", 1024, "")?);
+    assert!(rt; !is_sentence(alloc, "add 0 0.1.1 d k ", "v", 1025, "")?);
+    Ok(())
+}
+
+#[test]
+fn epochs(rt: HostRuntime) -> Result<(), Fail> {
+    let read = epoch(rt.alloc(), b"4294967295.20")?;
+    assert!(rt; matches!(&read, Some(e) if e.loss == 4294967295 && e.number == 20));
+    for word in [
+        "",
+        "0",
+        "0.",
+        ".1",
+        "0.1.1",
+        "0.01",
+        "00.1",
+        "0.4294967296",
+        "4294967296.0",
+        "0.+1",
+        "0,1",
+    ] {
+        assert!(rt; epoch(rt.alloc(), word.as_bytes())?.is_none(), "{word}");
+    }
     Ok(())
 }
 
@@ -166,7 +221,26 @@ fn bad_lines(rt: HostRuntime) {
         "set 0 0.1.1 d k v:",
         "set 0 0.1.1 d:e k v",
         "set 2 0.1.1 d k v",
-        "add 0 0.1.1 d k v",
+        "getu 0 0.1.1 d",
+        "getu 0 0.1.1 d ",
+        "getu 0 0.1.1 d k v",
+        "getu 1 0.1.1 d k",
+        "get u 0 0.1.1 d k",
+        "add 0 0.1.1 d k",
+        "add 0 0.1.1 d k ",
+        "add 0 0.1.1 d k v v",
+        "add 0 0.1.1  k v",
+        "add 0 1.1.1 d k v",
+        "del 0 0.1.1 d",
+        "del 0 0.1.1 d ",
+        "del 0 0.1.1 d k v",
+        "del 0 0.1.1 d k:v",
+        "delete 0 0.1.1 d k",
+        "abort 0",
+        "abort 0 ",
+        "abort 0 0.1",
+        "abort 0 0.1.1 d",
+        "abort 1 0.1.1",
         "arm 0",
         "arm 0 0",
         "arm 0 01",
@@ -187,6 +261,9 @@ fn bad_lines(rt: HostRuntime) {
         "inspect 0 0",
         "inspect 9",
         "inspect é",
+        "survey 0 0.2",
+        "appoint 0.2 0 0",
+        "activate 0.2",
     ];
     for line in lines {
         let read = read_event(rt.alloc(), line.as_bytes());

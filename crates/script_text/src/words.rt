@@ -2,11 +2,12 @@
 
 ghost use Rattle.std.specs.Prelude.{◌≡◌, ◌==◌, ◌<◌, ◌^◌, ℕ, List, map, decimal, IsTrue, IfOk, IfSome, IfNone};
 ghost use Rattle.std.specs.List.{slice_split, list_all};
+ghost use Rattle.rc_base.specs.declared.ids.Epoch.{Epoch as EpochValue};
 ghost use Rattle.rc_base.specs.declared.ids.TxnId.{TxnId};
 ghost use Rattle.rc_base.specs.Names as names;
 ghost use Rattle.script_text.specs.Letters as letters;
-ghost use Rattle.script_text.specs.Sentence.{txn_text, IsTxn};
-ghost use Rattle.script_text.specs.Reading.{texts, txn_parts};
+ghost use Rattle.script_text.specs.Sentence.{epoch_text, txn_text, IsEpoch, IsTxn};
+ghost use Rattle.script_text.specs.Reading.{texts, epoch_parts, txn_parts};
 
 use itoa::Buffer;
 use rc_base::{Bytes, Epoch, Name, NoMemory, ReplicaId, TxnId, is_name};
@@ -58,6 +59,31 @@ pub fn replica(word: &[u8]) -> Option<ReplicaId>
 {
     let n = number(word)?;
     ReplicaId::new(u8::try_from(n).ok()?)
+}
+
+/// The epoch of a text.
+///
+/// # Errors
+/// Want of memory.
+pub fn epoch(alloc: Global, word: &[u8]) -> Result<Option<Epoch>, AllocError>
+    ensures some { IfOk result (λ read. IfSome read (λ e. IsEpoch e × (word.now ≡ epoch_text e))) }
+    ensures none { IfOk result (λ read. IfNone read ((e : EpochValue) → IsEpoch e → word.now ≡ epoch_text e → ⊥)) }
+{
+    Ok(epoch_of_parts(&parts_of(alloc, b'.', word)?))
+}
+
+// The epoch of a text's parts.
+fn epoch_of_parts(parts: &[&[u8]]) -> Option<Epoch>
+    ensures some { IfSome result (λ e. IsEpoch e × (texts parts.now ≡ epoch_parts e)) }
+    ensures none { IfNone result ((e : EpochValue) → IsEpoch e → texts parts.now ≡ epoch_parts e → ⊥) }
+{
+    let [loss, count] = parts else {
+        return None;
+    };
+    Some(Epoch {
+        loss: short_number(loss)?,
+        number: short_number(count)?,
+    })
 }
 
 /// The transaction of a text.

@@ -9,12 +9,15 @@ use Rattle.coll_model.specs.declared.contents.Contents.TheVariants.{Dict, Queue}
 use Rattle.coll_model.specs.Effect.{State, at_key}
 use Rattle.script_text.specs.declared.event.Event.TheVariants.{Client}
 use Rattle.script_text.specs.declared.event.Call.{Call}
-use Rattle.script_text.specs.declared.event.Call.TheVariants.{Begin, Make, Get, Set, Commit}
+use Rattle.script_text.specs.declared.event.Call.TheVariants.{Begin, Make, Get, GetForUpdate, Set, Add, Delete, Commit, Abort}
 use Rattle.order_machine.specs.declared.observation.Observation.{Observation}
 use Rattle.order_machine.specs.declared.observation.Observation.TheVariants as says
 use Rattle.order_machine.specs.declared.reply.Reply.{Reply}
 use Rattle.order_machine.specs.Machine.{Machine}
-use Rattle.order_machine.specs.Answers.{answer, answered_at, reply_at, make_reply, get_reply, set_reply, found}
+use Rattle.rc_base.specs.declared.ids.TxnId.{TxnId}
+use Rattle.key_locks.specs.Grants.{Grant}
+use Rattle.order_machine.specs.Locking.{locks_at, against}
+use Rattle.order_machine.specs.Answers.{answer, answered_at, reply_to, make_reply, get_reply, set_reply, add_reply, added, delete_reply, deleted, found, plain, locked_or, live_reply}
 use Rattle.order_machine.specs.Rows.{Position, May, refusal, opened, at_start, asking, after, answering, IsComplete, HoldsBehind}
 use Rattle.order_machine.specs.Legal.{IsWhole, moved}
 use Rattle.world.proofs.Served.{served_from}
@@ -29,12 +32,14 @@ is_answer (says.Committed t) = false
 is_answer (says.Refused part) = false
 is_answer (says.Fault r) = false
 is_answer says.IgnoredUp = false
+is_answer (says.IgnoredOldEpoch f e) = false
+is_answer (says.Progress r e l) = false
 is_answer (says.State r n) = false
 is_answer (says.Rows words) = false
 is_answer _ = true
 
 abbrev pub start : Machine → ℕ → Call → Observation → Option Op → Position
-start m r call o op = at_start m (Client r call) (Some (record { answer = o; op = op })) []
+start m r call o op = at_start m (Client r call) r (Some (record { answer = o; op = op })) []
 
 -- it may come first
 answer_may : (m : Machine) (r : ℕ) (call : Call) (o : Observation) (op : Option Op) → is_answer o ≡ true → May (start m r call o op) o
@@ -46,6 +51,8 @@ answer_may m r call (says.Committed t) op is = absurd (false≢true is)
 answer_may m r call (says.Refused part) op is = absurd (false≢true is)
 answer_may m r call (says.Fault q) op is = absurd (false≢true is)
 answer_may m r call says.IgnoredUp op is = absurd (false≢true is)
+answer_may m r call (says.IgnoredOldEpoch f e) op is = absurd (false≢true is)
+answer_may m r call (says.Progress q e l) op is = absurd (false≢true is)
 answer_may m r call (says.State q n) op is = absurd (false≢true is)
 answer_may m r call (says.Rows words) op is = absurd (false≢true is)
 answer_may m r call (says.Txn t) op is = record { named = refl; in_rank = refl; next = refl; goes_on = refl; row = (refl, refl) }
@@ -53,6 +60,7 @@ answer_may m r call says.Done op is = record { named = refl; in_rank = refl; nex
 answer_may m r call (says.Down q) op is = record { named = refl; in_rank = refl; next = refl; goes_on = refl; row = (refl, refl) }
 answer_may m r call (says.NotActive q) op is = record { named = refl; in_rank = refl; next = refl; goes_on = refl; row = (refl, refl) }
 answer_may m r call (says.Ended t) op is = record { named = refl; in_rank = refl; next = refl; goes_on = refl; row = (refl, refl) }
+answer_may m r call (says.Locked t) op is = record { named = refl; in_rank = refl; next = refl; goes_on = refl; row = (refl, refl) }
 answer_may m r call says.True op is = record { named = refl; in_rank = refl; next = refl; goes_on = refl; row = (refl, refl) }
 answer_may m r call says.False op is = record { named = refl; in_rank = refl; next = refl; goes_on = refl; row = (refl, refl) }
 answer_may m r call (says.Value value) op is = record { named = refl; in_rank = refl; next = refl; goes_on = refl; row = (refl, refl) }
@@ -70,6 +78,8 @@ answer_after m r call (says.Committed t) op is = absurd (false≢true is)
 answer_after m r call (says.Refused part) op is = absurd (false≢true is)
 answer_after m r call (says.Fault q) op is = absurd (false≢true is)
 answer_after m r call says.IgnoredUp op is = absurd (false≢true is)
+answer_after m r call (says.IgnoredOldEpoch f e) op is = absurd (false≢true is)
+answer_after m r call (says.Progress q e l) op is = absurd (false≢true is)
 answer_after m r call (says.State q n) op is = absurd (false≢true is)
 answer_after m r call (says.Rows words) op is = absurd (false≢true is)
 answer_after m r call (says.Txn t) op is = refl
@@ -77,6 +87,7 @@ answer_after m r call says.Done op is = refl
 answer_after m r call (says.Down q) op is = refl
 answer_after m r call (says.NotActive q) op is = refl
 answer_after m r call (says.Ended t) op is = refl
+answer_after m r call (says.Locked t) op is = refl
 answer_after m r call says.True op is = refl
 answer_after m r call says.False op is = refl
 answer_after m r call (says.Value value) op is = refl
@@ -84,15 +95,15 @@ answer_after m r call says.Missing op is = refl
 answer_after m r call says.Absent op is = refl
 answer_after m r call says.WrongKind op is = refl
 
--- The event of a call that isn't refused, and whose asking changes nothing, is answered so.
-pub answer_serves : (m : Machine) (r : ℕ) (call : Call) (o : Observation) (op : Option Op) (Q : Machine → Type 0) → refusal m (Client r call) ≡ None → asking m r call ≡ m → answer m r call ≡ Some (record { answer = o; op = op }) → is_answer o ≡ true
-    → HoldsBehind (answered_at m r call (record { answer = o; op = op })) → Q (answered_at m r call (record { answer = o; op = op })) → IsWhole m (Client r call) (o ∷ []) × Q (moved m (Client r call) (o ∷ []))
-answer_serves m r call o op Q none asked answers is holds q =
-    let begins : opened m (Client r call) ≡ start m r call o op = ap (λ n. at_start n (Client r call) (answer m r call) []) asked ∙ ap (λ client. at_start m (Client r call) client []) answers in
-    let then : after (start m r call o op) o ≡ record (answering (start m r call o op) o) { rank = 6 } = answer_after m r call o op is in
-    served_from m (Client r call) (o ∷ []) (start m r call o op) Q none begins
+-- The event of a call that isn't refused, which has this machine once it was asked, is answered so.
+pub answer_serves : (m asked : Machine) (r : ℕ) (call : Call) (o : Observation) (op : Option Op) (Q : Machine → Type 0) → refusal m (Client r call) ≡ None → asking m r call ≡ asked → answer m r call ≡ Some (record { answer = o; op = op }) → is_answer o ≡ true
+    → HoldsBehind (answered_at asked r call (record { answer = o; op = op })) → Q (answered_at asked r call (record { answer = o; op = op })) → IsWhole m (Client r call) (o ∷ []) × Q (moved m (Client r call) (o ∷ []))
+answer_serves m asked r call o op Q none is_asked answers is holds q =
+    let begins : opened m (Client r call) ≡ start asked r call o op = ap (λ n. at_start n (Client r call) r (answer m r call) []) is_asked ∙ ap (λ client. at_start asked (Client r call) r client []) answers in
+    let then : after (start asked r call o op) o ≡ record (answering (start asked r call o op) o) { rank = 6 } = answer_after asked r call o op is in
+    served_from m (Client r call) (o ∷ []) (start asked r call o op) Q none begins
     (record {
-      may = (answer_may m r call o op is, tt);
+      may = (answer_may asked r call o op is, tt);
       complete = subst IsComplete (sym then) (record { opened = refl; grown = refl; mounted = refl; told = refl; answered = refl });
       holds = subst (λ p. HoldsBehind p.machine) (sym then) holds;
     })
@@ -118,9 +129,42 @@ set_is name key value None = refl
 set_is name key value (Some (Dict pairs)) = refl
 set_is name key value (Some (Queue values)) = refl
 
-pub reply_is : (state : State) (call : Call) (reply : Reply) → reply_at state call ≡ Some reply → is_answer reply.answer ≡ true
+added_is : (name key value : List ℕ) (o : Option (List ℕ)) → is_answer (added name key value o).answer ≡ true
+added_is name key value None = refl
+added_is name key value (Some present) = refl
+
+add_is : (name key value : List ℕ) (o : Option Contents) → is_answer (add_reply name key value o).answer ≡ true
+add_is name key value None = refl
+add_is name key value (Some (Dict pairs)) = added_is name key value (at_key key pairs)
+add_is name key value (Some (Queue values)) = refl
+
+deleted_is : (name key : List ℕ) (o : Option (List ℕ)) → is_answer (deleted name key o).answer ≡ true
+deleted_is name key None = refl
+deleted_is name key (Some present) = refl
+
+delete_is : (name key : List ℕ) (o : Option Contents) → is_answer (delete_reply name key o).answer ≡ true
+delete_is name key None = refl
+delete_is name key (Some (Dict pairs)) = deleted_is name key (at_key key pairs)
+delete_is name key (Some (Queue values)) = refl
+
+by_reply : (given reply : Reply) → Some given ≡ Some reply → is_answer given.answer ≡ true → is_answer reply.answer ≡ true
+by_reply given reply e is = subst (λ x. is_answer x.answer ≡ true) (same_Some given reply e) is
+
+reply_is : (state : State) (call : Call) (reply : Reply) → reply_to state call ≡ Some reply → is_answer reply.answer ≡ true
 reply_is state Begin reply e = absurd (none-some reply e)
-reply_is state (Make t name kind) reply e = subst (λ x. is_answer x.answer ≡ true) (same_Some (make_reply name kind (at_key name state)) reply e) (make_is name kind (at_key name state))
-reply_is state (Get t name key) reply e = subst (λ x. is_answer x.answer ≡ true) (same_Some (get_reply key (at_key name state)) reply e) (get_is key (at_key name state))
-reply_is state (Set t name key value) reply e = subst (λ x. is_answer x.answer ≡ true) (same_Some (set_reply name key value (at_key name state)) reply e) (set_is name key value (at_key name state))
+reply_is state (Make t name kind) reply e = by_reply (make_reply name kind (at_key name state)) reply e (make_is name kind (at_key name state))
+reply_is state (Get t name key) reply e = by_reply (get_reply key (at_key name state)) reply e (get_is key (at_key name state))
+reply_is state (GetForUpdate t name key) reply e = by_reply (get_reply key (at_key name state)) reply e (get_is key (at_key name state))
+reply_is state (Set t name key value) reply e = by_reply (set_reply name key value (at_key name state)) reply e (set_is name key value (at_key name state))
+reply_is state (Add t name key value) reply e = by_reply (add_reply name key value (at_key name state)) reply e (add_is name key value (at_key name state))
+reply_is state (Delete t name key) reply e = by_reply (delete_reply name key (at_key name state)) reply e (delete_is name key (at_key name state))
 reply_is state (Commit t) reply e = absurd (none-some reply e)
+reply_is state (Abort t) reply e = by_reply (plain says.Done) reply e refl
+
+-- also where another transaction stands against it
+pub live_reply_is : (grants : List Grant) (state : State) (t : TxnId) (call : Call) (reply : Reply) → live_reply grants state t call ≡ Some reply → is_answer reply.answer ≡ true
+live_reply_is grants state t call reply = by (against grants t (locks_at state call))
+  where
+    by : (o : Option TxnId) → locked_or o (reply_to state call) ≡ Some reply → is_answer reply.answer ≡ true
+    by None e = reply_is state call reply e
+    by (Some held_by) e = by_reply (plain (says.Locked held_by)) reply e refl

@@ -6,7 +6,7 @@ use Rattle.script_text.specs.declared.event.Event.TheVariants.{Boot, Arm, Reboot
 use Rattle.order_machine.specs.declared.observation.Observation.{Observation}
 use Rattle.order_machine.specs.declared.observation.Observation.TheVariants as says
 use Rattle.order_machine.specs.Machine.{Machine, empty_machine}
-use Rattle.order_machine.specs.Rows.{IsUnbuilt, refusal}
+use Rattle.order_machine.specs.Rows.{refusal}
 use Rattle.order_machine.specs.Legal.{IsWhole, moved}
 use Rattle.replica.specs.Open.{Open}
 use Rattle.world.specs.declared.error.WorldError.{WorldError}
@@ -21,10 +21,9 @@ use Rattle.world.proofs.Still.{stands_still}
 pub record IsAnswered (m : Machine) (event : Event) (o : Observation) : Type 0 where
   pub whole : IsWhole m event (o ∷ [])
   pub same : moved m event (o ∷ []) ≡ m
-  pub built : IsUnbuilt m event → ⊥
 
-pub answered_refused : (m : Machine) (event : Event) (o : Observation) → refusal m event ≡ Some o → (IsUnbuilt m event → ⊥) → IsAnswered m event o
-answered_refused m event o e built = let r = refused_serves m event o e in record { whole = r.0; same = r.1; built = built }
+pub answered_refused : (m : Machine) (event : Event) (o : Observation) → refusal m event ≡ Some o → IsAnswered m event o
+answered_refused m event o e = let r = refused_serves m event o e in record { whole = r.0; same = r.1 }
 
 -- ---- the event is served
 
@@ -41,7 +40,7 @@ answered_serves old new images event o number (Ok lines) told kept memory rising
     (λ m s.
     let a = answered m s in
     let later : StandsFor new images m = subst (λ k. StandsFor k images m) (sym kept) (stands_later old number images m rising s) in
-    (a.whole, subst (λ n. StandsFor new images n) (sym a.same) later, a.built, stands_still old images m s))
+    (a.whole, subst (λ n. StandsFor new images n) (sym a.same) later, stands_still old images m s))
 answered_serves old new images event o number (Err e) told kept memory rising answered = no_memory old new images images event e (λ m s. stands_still old images m s) memory
 
 -- where memory ran out before anything was done

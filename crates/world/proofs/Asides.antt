@@ -36,6 +36,7 @@ abbrev telling : Machine → List (List (List ℕ)) → Position
 telling m rows = record {
   machine = m;
   event = Inspect 0;
+  primary = 0;
   client = None;
   answered = true;
   rank = 6;

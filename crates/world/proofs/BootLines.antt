@@ -66,17 +66,17 @@ done_may = record { named = refl; in_rank = refl; next = refl; goes_on = refl; r
 
 -- ---- the boot
 
-holds_booted : HoldsBehind (standing [] [] (serving 0 0) [] true)
+holds_booted : HoldsBehind (standing [] [] (serving 0 0 []) [] true)
 holds_booted = record {
   not_shown = λ r t h. absurd (false≢true h);
   alone = elim [
     | zero ↦ λ h. (refl, λ t. refl)
-    | suc r ↦ λ h. absurd (not_alone (standing [] [] (serving 0 0) [] true) (suc r) (ap (λ x. x.role) (never_put (suc r))) h)
+    | suc r ↦ λ h. absurd (not_alone (standing [] [] (serving 0 0 []) [] true) (suc r) (ap (λ x. x.role) (never_put (suc r))) h)
   ];
 }
 
 pub boot_serves : IsWhole empty_machine (Boot 0 (0 ∷ [])) (says.Up 0 ∷ says.View 0 0 ∷ says.Active 0 ∷ says.Done ∷ [])
-    × (moved empty_machine (Boot 0 (0 ∷ [])) (says.Up 0 ∷ says.View 0 0 ∷ says.Active 0 ∷ says.Done ∷ []) ≡ standing [] [] (serving 0 0) [] true)
+    × (moved empty_machine (Boot 0 (0 ∷ [])) (says.Up 0 ∷ says.View 0 0 ∷ says.Active 0 ∷ says.Done ∷ []) ≡ standing [] [] (serving 0 0 []) [] true)
 boot_serves = (
   record {
     may = (up_may, (view_may, (active_may, (done_may, tt))));

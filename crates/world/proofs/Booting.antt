@@ -1,9 +1,11 @@
 -- The boot of replica 0 over a disk without a log.
-use Rattle.std.proofs.Common.{◌≡◌, ◌∙◌, sym, ap, subst, refl, ℕ, ◌+◌, ◌≤◌, true, false, List, [], ◌∷◌, ◌++◌, length, flat_map, Option, Some, None, Result, Ok, arith, inl, inr, ◌⊎◌, ⊎_elim, suc}
+use Rattle.std.proofs.Common.{◌≡◌, ◌∙◌, sym, ap, subst, refl, ℕ, ◌+◌, ◌≤◌, Bool, true, false, cond, List, [], ◌∷◌, ◌++◌, length, map, flat_map, Option, Some, None, Result, Ok, arith, inl, inr, ◌⊎◌, ⊎_elim, suc}
 use Rattle.std.specs.Option.{ForSome, IsSome, IfSome}
 use Rattle.std.proofs.lemmas.Bool.{false≢true}
 use Rattle.std.proofs.lemmas.Option.{none-some}
-use Rattle.rc_base.specs.Ids.{no_epoch, epoch_lt}
+use Rattle.rc_base.specs.declared.ids.TxnId.{TxnId}
+use Rattle.rc_base.specs.Ids.{no_epoch, epoch_lt, is_epoch}
+use Rattle.key_locks.specs.declared.lock_mode.LockMode.TheVariants.{Exclusive}
 use Rattle.coll_model.specs.Effect.{folded}
 use Rattle.disk_model.specs.Disk.{Areas, Follows}
 use Rattle.log_store.specs.declared.kept.Kept.{Kept as Log}
@@ -11,23 +13,27 @@ use Rattle.log_store.specs.Durable.{durable, StandFor}
 use Rattle.log_store.specs.Fold.{Place, no_log}
 use Rattle.log_store.specs.Growth.{new_log}
 use Rattle.log_store.specs.Log.{commits_in}
-use Rattle.log_store.specs.Store.{Store, KeepsOrBegins}
+use Rattle.log_store.specs.Store.{KeepsOrBegins}
 use Rattle.script_text.specs.declared.event.Event.TheVariants.{Boot}
 use Rattle.order_machine.specs.declared.observation.Observation.{Observation}
 use Rattle.order_machine.specs.declared.observation.Observation.TheVariants as says
 use Rattle.order_machine.specs.Machine.{Machine, empty_machine}
 use Rattle.order_machine.specs.Legal.{IsWhole, moved}
 use Rattle.order_machine.specs.Rows.{first_epoch}
+use Rattle.txn_front.specs.Front.{Fronted, Going, nothing, going_of}
 use Rattle.replica.specs.declared.role.Role.TheVariants.{Other}
 use Rattle.replica.specs.declared.step.StepEvent.{StepEvent}
 use Rattle.replica.specs.declared.step.StepEvent.TheVariants as steps
 use Rattle.replica.specs.Open as opens
-use Rattle.replica.specs.Open.{Open, AgreesWith, stable_in, commits_to}
+use Rattle.replica.specs.Open.{Open, AreSame, AgreesWith, stable_in, commits_to}
 use Rattle.replica.specs.Step.{MayStep}
 use Rattle.world.specs.Fleet.{faults_in, TellsZero}
 use Rattle.world.specs.Steps.{told_by, finished, log_once, log_twice, log_behind, HoldsSome}
+use Rattle.world.specs.Disks.{as_commit}
 use Rattle.world.specs.Kept.{Kept}
-use Rattle.world.specs.World.{running, Runs, StandsFor, AsReplica, Serving, IsOpen, IsSound, Serves, StillHolds}
+use Rattle.world.specs.Running.{running, Runs}
+use Rattle.world.specs.World.{StandsFor, AsReplica, Serving, IsOpen, IsSound, Serves, StillHolds}
+use Rattle.world.proofs.Changed.{runs_alike}
 use Rattle.world.proofs.Later.{new_of, as_replica, replica_later}
 use Rattle.world.proofs.Faultless.{fault_first}
 use Rattle.world.proofs.BootLines.{mounted, boot_lines, boot_serves, boot_mount_faults, boot_start_faults, boot_barrier_faults}
@@ -61,10 +67,10 @@ pub record IsFresh (r : Open) : Type 0 where
   pub contents : r.contents ≡ []
   pub ahead : r.ahead ≡ []
   pub role : r.role ≡ Other
-  pub begins : r.begins ≡ 0
+  pub front : r.front ≡ nothing no_epoch
 
-pub fresh_over_new : (r : Open) (log : Log) (now : Areas → Type 0) → log ≡ new_log 0 → IsOpen r log now → r.stable.0 ≡ stable_in log.records → r.role ≡ Other → r.begins ≡ 0 → IsFresh r
-fresh_over_new r log now new o stable role begins =
+pub fresh_over_new : (r : Open) (log : Log) (now : Areas → Type 0) → log ≡ new_log 0 → IsOpen r log now → r.stable.0 ≡ stable_in log.records → r.role ≡ Other → r.front ≡ nothing no_epoch → IsFresh r
+fresh_over_new r log now new o stable role front =
     let agrees : AgreesWith r (new_log 0) = subst (AgreesWith r) new o.agrees in
     let zero_stable : r.stable.0 ≡ 0 = stable ∙ ap (λ (l : Log). stable_in l.records) new in
     let none : commits_to r.stable.0 [] ≡ [] = ap (λ (n : ℕ). commits_to n []) zero_stable in
@@ -76,7 +82,7 @@ fresh_over_new r log now new o stable role begins =
       contents = sym agrees.contents ∙ ap opens.state_of none;
       ahead = sym (agrees.commits ∙ ap (λ cs. cs ++ r.ahead) none);
       role = role;
-      begins = begins;
+      front = front;
     }
 
 pub fresh_may_start : (r : Open) → IsFresh r → MayStep r first_start
@@ -98,13 +104,13 @@ pub record IsOverNew (r : Open) (now : Areas → Type 0) (lines : List Observati
   pub told : lines ≡ opened_lines r.shown
 
 pub over_new : (o : Option Open) (r : Open) (images now : Areas → Type 0) (seen : Option Areas) (begun lines : List Observation) → begun ≡ [] → o ≡ Some r → StandFor no_log images → Follows (KeepsOrBegins 0) images now → IsSome seen → ForSome seen now →
-    IfSome o (λ r. (log : Log) × IsOpen r log now × (r.stable.0 ≡ stable_in log.records)) → IfSome o (λ r. (r.role ≡ Other) × (r.begins ≡ 0) × (r.live ≡ None)) → IfSome o (λ r. lines ≡ begun ++ opened_lines r.shown) → IsOverNew r now lines
-over_new o r images now seen begun lines nothing some empty follows told shown opened fresh lines_are =
+    IfSome o (λ r. (log : Log) × IsOpen r log now × (r.stable.0 ≡ stable_in log.records)) → IfSome o (λ r. (r.role ≡ Other) × (r.front ≡ nothing no_epoch)) → IfSome o (λ r. lines ≡ begun ++ opened_lines r.shown) → IsOverNew r now lines
+over_new o r images now seen begun lines untold some empty follows told shown opened fresh lines_are =
     let at = subst (λ w. IfSome w (λ r. (log : Log) × IsOpen r log now × (r.stable.0 ≡ stable_in log.records))) some opened in
     let new = log_is_new r at.0 images now seen empty follows told shown at.1 in
-    let first = subst (λ w. IfSome w (λ r. (r.role ≡ Other) × (r.begins ≡ 0) × (r.live ≡ None))) some fresh in
+    let first = subst (λ w. IfSome w (λ r. (r.role ≡ Other) × (r.front ≡ nothing no_epoch))) some fresh in
     let all = subst (λ w. IfSome w (λ r. lines ≡ begun ++ opened_lines r.shown)) some lines_are in
-    record { log = at.0; is_new = new; is_open = at.1; fresh = fresh_over_new r at.0 now new at.1 at.2 first.0 first.1; told = all ∙ ap (λ ls. ls ++ opened_lines r.shown) nothing }
+    record { log = at.0; is_new = new; is_open = at.1; fresh = fresh_over_new r at.0 now new at.1 at.2 first.0 first.1; told = all ∙ ap (λ ls. ls ++ opened_lines r.shown) untold }
 
 -- ---- the boot
 
@@ -116,36 +122,50 @@ pub started_lines : (r : Open) (opened lines : List Observation) → IsFresh r �
 started_lines r opened lines f is all =
     all ∙ ap (λ ls. ls ++ says.Done ∷ []) (ap (λ ls. ls ++ told_by r first_start) (is ∙ ap opened_lines f.shown) ∙ ap (λ ls. opened_lines 0 ++ ls) (told_start r f))
 
-started_runs : (r : Open) (store : Store) (m : Machine) → IsFresh r → m ≡ running [] [] [] 0 → Runs 0 (r.shown + length r.ahead) (folded r.contents (flat_map (λ c. c.ops) r.ahead)) None m
-started_runs r store m f is = record {
+nothing_going : (t : TxnId) → going_of (nothing first_epoch) t ≡ None
+nothing_going t = either_way (is_epoch t.epoch first_epoch)
+  where
+    either_way : (here : Bool) → ◌≡◌ {A = Option Going} (cond here None None) None
+    either_way true = refl
+    either_way false = refl
+
+-- nothing goes on in the first epoch
+started_runs : (r : Open) (m : Machine) → IsFresh r → m ≡ running [] [] [] 0 [] → Runs (nothing first_epoch) (r.shown + length r.ahead) (folded r.contents (flat_map (λ c. c.ops) r.ahead)) m
+started_runs r m f is = record {
   entries = [];
   acknowledged = [];
   txns = [];
+  grants = [];
   is = is;
+  epoch = refl;
+  alike = λ name. refl;
+  exclusive = λ name t u mode other held also. absurd (none-some Exclusive held);
   all_shown = rw (f.shown, f.ahead) refl;
   sees = rw (f.contents, f.ahead) refl;
   each = λ t x e. absurd (none-some x e);
-  live_known = λ going e. absurd (none-some going e);
+  live_known = λ t going e. absurd (none-some going (sym (nothing_going t) ∙ e));
   held = λ t e. absurd (false≢true e);
   held_begun = λ t e. absurd (false≢true e);
 }
 
-pub boots_whole : (r x : Open) (log : Log) (now : Areas → Type 0) (opened lines : List Observation) → IsFresh r → log ≡ new_log 0 → x ≡ record (finished r first_start) { log = x.log } → IsOpen x (log_behind r first_start log) now →
+pub boots_whole : (r x : Open) (log : Log) (now : Areas → Type 0) (opened lines : List Observation) → IsFresh r → log ≡ new_log 0 → AreSame x (record (finished r first_start) { log = x.log }) → IsOpen x (log_behind r first_start log) now →
     opened ≡ opened_lines r.shown → lines ≡ (opened ++ told_by r first_start) ++ says.Done ∷ [] → Boots (Some x) now lines
 unfolding started_runs
 boots_whole r x log now opened lines f new kept o is all =
-    let y : Open = record (finished r first_start) { log = x.log } in
+    let y : Open = record (finished r first_start) { log = x.log; front = x.front } in
+    let runs = runs_alike [] (nothing first_epoch) x.front (r.shown + length r.ahead) (folded r.contents (flat_map (λ c. c.ops) r.ahead)) (moved empty_machine (Boot 0 (0 ∷ [])) boot_lines) kept.front (started_runs r _ f boot_serves.1, refl) in
     let served : Serving 1 y now (moved empty_machine (Boot 0 (0 ∷ [])) boot_lines) = record {
-      runs = started_runs r x.log _ f boot_serves.1;
+      runs = runs.0;
       log = log_behind r first_start log;
-      is_open = subst (λ (z : Open). IsOpen z (log_behind r first_start log) now) kept o;
+      is_open = subst (λ (z : Open). IsOpen z (log_behind r first_start log) now) kept.same o;
       epoch = refl;
-      commits = subst (λ (l : Log). [] ≡ commits_in (log_behind r first_start l).records) (sym new) refl;
+      commits = ap (map as_commit) runs.1 ∙ subst (λ (l : Log). [] ≡ commits_in (log_behind r first_start l).records) (sym new) refl;
       short = subst (λ (l : Log). length (log_behind r first_start l).records ≤ 3) (sym new) (omega arith);
-      few = omega arith;
+      few = let none : x.front.begins ≡ 0 = ap (λ (g : Fronted). g.begins) kept.front.same in omega (arith, none);
+      recorded = λ t going e. absurd (none-some going (sym (ap (λ (g : Fronted). going_of g t) kept.front.same ∙ nothing_going t) ∙ e));
     } in
     subst (Boots (Some x) now) (sym (started_lines r opened lines f is all))
-    (boot_serves.0, subst (λ (z : Open). AsReplica (Some z) 1 now (moved empty_machine (Boot 0 (0 ∷ [])) boot_lines)) (sym kept) served)
+    (boot_serves.0, subst (λ (z : Open). AsReplica (Some z) 1 now (moved empty_machine (Boot 0 (0 ∷ [])) boot_lines)) (sym kept.same) served)
 
 -- ---- its faults
 
@@ -217,5 +237,5 @@ fault_of_zero lines (inr is) q = ap (faults_in (suc q)) is ∙ fault_first q
 pub boot_does : (k new : Kept) (images now : Areas → Type 0) (o : Option Open) (lines : List Observation) → k.booted ≡ false → 1 ≤ new.last → new.booted ≡ true → new.replica ≡ o → Boots o now lines → Serves k new images now (Boot 0 (0 ∷ [])) (Ok lines)
 boot_does k new images now o lines fresh some booted is boots = λ m s.
     let n = new_of k images m fresh s in
-    subst (λ x. IsWhole x (Boot 0 (0 ∷ [])) lines × StandsFor new now (moved x (Boot 0 (0 ∷ [])) lines) × (⊥ → ⊥) × StillHolds x now) (sym n.is)
-    (boots.0, as_replica new now (moved empty_machine (Boot 0 (0 ∷ [])) lines) booted (subst (λ w. AsReplica w new.last now (moved empty_machine (Boot 0 (0 ∷ [])) lines)) (sym is) (replica_later o 1 new.last now (moved empty_machine (Boot 0 (0 ∷ [])) lines) some boots.1)), λ u. u, λ b. absurd (false≢true b))
+    subst (λ x. IsWhole x (Boot 0 (0 ∷ [])) lines × StandsFor new now (moved x (Boot 0 (0 ∷ [])) lines) × StillHolds x now) (sym n.is)
+    (boots.0, as_replica new now (moved empty_machine (Boot 0 (0 ∷ [])) lines) booted (subst (λ w. AsReplica w new.last now (moved empty_machine (Boot 0 (0 ∷ [])) lines)) (sym is) (replica_later o 1 new.last now (moved empty_machine (Boot 0 (0 ∷ [])) lines) some boots.1)), λ b. absurd (false≢true b))

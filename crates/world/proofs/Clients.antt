@@ -1,31 +1,26 @@
 -- Client calls, in terms of what a world keeps.
-use Rattle.std.proofs.Common.{◌≡◌, sym, subst, ℕ, ◌<◌, ◌≤◌, Bool, true, false, not, ◌&&◌, MatchBool, List, [], ◌∷◌, ◌++◌, Option, Some, None, is_some, Result, Ok, Err, IfOk, OnOk, OnErr, ◌*◌, refl, arith}
-use Rattle.std.proofs.lemmas.Bool.{false≢true}
-use Rattle.std.proofs.lemmas.Option.{none-some}
+use Rattle.std.proofs.Common.{◌≡◌, sym, subst, ℕ, ◌<◌, ◌≤◌, Bool, true, false, MatchBool, List, [], ◌∷◌, ◌++◌, Option, Some, None, Result, Ok, Err, IfOk, OnOk, OnErr, ◌*◌, refl, arith}
 use Rattle.disk_model.specs.Disk.{Areas}
 use Rattle.log_store.specs.declared.kept.Kept.{Kept as Log}
 use Rattle.script_text.specs.declared.event.Event.TheVariants.{Client}
 use Rattle.script_text.specs.declared.event.Call.{Call}
-use Rattle.script_text.specs.declared.event.Call.TheVariants.{Begin, Make, Get, Set, Commit}
 use Rattle.order_machine.specs.declared.observation.Observation.{Observation}
 use Rattle.order_machine.specs.declared.observation.Observation.TheVariants as says
 use Rattle.order_machine.specs.Machine.{Machine, empty_machine}
-use Rattle.order_machine.specs.Rows.{IsUnbuilt}
 use Rattle.order_machine.specs.Legal.{IsWhole, moved}
-use Rattle.replica.specs.declared.going.Going.{Going as GoingThere}
 use Rattle.replica.specs.declared.role.Role.{Role}
 use Rattle.replica.specs.declared.role.Role.TheVariants.{Other, Primary}
 use Rattle.replica.specs.declared.step.StepEvent.TheVariants as steps
 use Rattle.replica.specs.Open.{Open}
-use Rattle.replica.specs.Step.{CallFits, is_active}
+use Rattle.replica.specs.Step.{CallFits}
 use Rattle.world.specs.declared.error.WorldError.{WorldError}
 use Rattle.world.specs.declared.error.WorldError.TheVariants as errors
 use Rattle.world.specs.Kept.{Kept}
 use Rattle.world.specs.Standing.{standing, shut}
-use Rattle.world.specs.Steps.{waits, IsCutOff, HoldsSome}
-use Rattle.world.specs.World.{StandsFor, Serves, IsNew, IsOpen, Closed, Serving, AsRole, AsReplica, StillHolds}
-use Rattle.world.proofs.Begin.{unbuilt_beside}
-use Rattle.world.proofs.Calls.{IsDone, call_done, runs_live, here}
+use Rattle.world.specs.Steps.{IsCutOff, HoldsSome}
+use Rattle.world.specs.World.{StandsFor, Serves, IsNew, IsOpen, Closed, AsRole, AsReplica, StillHolds}
+use Rattle.world.proofs.Calls.{IsDone}
+use Rattle.world.proofs.CommitCalls.{call_done}
 use Rattle.world.proofs.CutOff.{call_cut, call_short}
 use Rattle.world.proofs.Refusals.{refused_serves}
 use Rattle.world.proofs.Sound.{sound_later}
@@ -34,7 +29,7 @@ use Rattle.world.proofs.Unserved.{down_serves}
 
 -- At each state that the world stands for, these are all lines of the call, and it stands for the state behind them.
 abbrev pub ServesCall : Kept → Kept → (Areas → Type 0) → (Areas → Type 0) → Call → List Observation → Type 0
-ServesCall old new before now call lines = (m : Machine) → StandsFor old before m → IsWhole m (Client 0 call) lines × StandsFor new now (moved m (Client 0 call) lines) × (IsUnbuilt m (Client 0 call) → ⊥) × StillHolds m now
+ServesCall old new before now call lines = (m : Machine) → StandsFor old before m → IsWhole m (Client 0 call) lines × StandsFor new now (moved m (Client 0 call) lines) × StillHolds m now
 
 abbrev pub kept : ℕ → Bool → Option Open → Kept
 kept last booted replica = record { last = last; booted = booted; replica = replica }
@@ -47,50 +42,21 @@ stands_open k r images m booted there s = rw (booted, there) at s
 pub client_done : (k : Kept) (number : ℕ) (r r' : Open) (call : Call) (before now : Areas → Type 0) (lines : List Observation) → k.booted ≡ true → k.replica ≡ Some r → k.last < number → IsDone r r' call before now lines → ServesCall k (kept number k.booted (Some r')) before now call lines
 client_done k number r r' call before now lines booted there later d m s =
     let done = call_done k.last number r r' call before now lines m later (stands_open k r before m booted there s) d in
-    (done.0, rw booted done.1, done.2, done.3)
+    (done.0, rw booted done.1, done.2)
 
-pub client_cut : (k : Kept) (number : ℕ) (r : Open) (call : Call) (before now : Areas → Type 0) (lines given : List Observation) → k.booted ≡ true → k.replica ≡ Some r → k.last < number → CallFits call → waits r call ≡ false → ((log : Log) → IsOpen r log before → IsCutOff r (steps.Client call) log [] lines now) → given ≡ lines ++ says.Fault 0 ∷ [] → ServesCall k (kept number k.booted None) before now call given
-client_cut k number r call before now lines given booted there later fits alone cut is m s =
-    let done = call_cut k.last number r call before now lines m later fits alone (stands_open k r before m booted there s) cut in
-    let P : List Observation → Type 0 = λ ls. IsWhole m (Client 0 call) ls × StandsFor (kept number k.booted None) now (moved m (Client 0 call) ls) × (IsUnbuilt m (Client 0 call) → ⊥) × StillHolds m now in
-    subst P (sym is) (done.0, rw booted done.1, done.2, done.3)
+pub client_cut : (k : Kept) (number : ℕ) (r : Open) (call : Call) (before now : Areas → Type 0) (lines given : List Observation) → k.booted ≡ true → k.replica ≡ Some r → k.last < number → CallFits call → ((log : Log) → IsOpen r log before → IsCutOff r (steps.Client call) log [] lines now) → given ≡ lines ++ says.Fault 0 ∷ [] → ServesCall k (kept number k.booted None) before now call given
+client_cut k number r call before now lines given booted there later fits cut is m s =
+    let done = call_cut k.last number r call before now lines m later fits (stands_open k r before m booted there s) cut in
+    let P : List Observation → Type 0 = λ ls. IsWhole m (Client 0 call) ls × StandsFor (kept number k.booted None) now (moved m (Client 0 call) ls) × StillHolds m now in
+    subst P (sym is) (done.0, rw booted done.1, done.2)
 
 -- also where the line of the fault found no memory
-pub client_cut_still : (k : Kept) (number : ℕ) (r : Open) (call : Call) (before now : Areas → Type 0) (lines : List Observation) → k.booted ≡ true → k.replica ≡ Some r → k.last < number → CallFits call → waits r call ≡ false → ((log : Log) → IsOpen r log before → IsCutOff r (steps.Client call) log [] lines now) → (m : Machine) → StandsFor k before m → StillHolds m now
-client_cut_still k number r call before now lines booted there later fits alone cut m s =
-    (call_cut k.last number r call before now lines m later fits alone (stands_open k r before m booted there s) cut).3
+pub client_cut_still : (k : Kept) (number : ℕ) (r : Open) (call : Call) (before now : Areas → Type 0) (lines : List Observation) → k.booted ≡ true → k.replica ≡ Some r → k.last < number → CallFits call → ((log : Log) → IsOpen r log before → IsCutOff r (steps.Client call) log [] lines now) → (m : Machine) → StandsFor k before m → StillHolds m now
+client_cut_still k number r call before now lines booted there later fits cut m s =
+    (call_cut k.last number r call before now lines m later fits (stands_open k r before m booted there s) cut).2
 
-pub client_short : (k : Kept) (r : Open) (call : Call) (before now : Areas → Type 0) → k.booted ≡ true → k.replica ≡ Some r → CallFits call → waits r call ≡ false → ((log : Log) → IsOpen r log before → HoldsSome r (steps.Client call) log now) → (m : Machine) → StandsFor k before m → StillHolds m now
-client_short k r call before now booted there fits alone some m s = call_short k.last r call before now m fits alone (stands_open k r before m booted there s) some
-
--- ---- a begin that waits
-
-some_live : (live : Option GoingThere) → not (not (is_some live)) ≡ true → (g : GoingThere) × (live ≡ Some g)
-some_live None n = absurd (false≢true n)
-some_live (Some g) n = (g, refl)
-
-both_true : (a b : Bool) → (a && b) ≡ true → (a ≡ true) × (b ≡ true)
-both_true true b e = (refl, e)
-both_true false b e = absurd (false≢true e)
-
-waiting : (r : Open) (call : Call) → waits r call ≡ true → (call ≡ Begin) × ((is_active r.role ≡ true) × ((g : GoingThere) × (r.live ≡ Some g)))
-waiting r Begin e = let b = both_true (is_active r.role) (not (not (is_some r.live))) e in (refl, (b.0, some_live r.live b.1))
-waiting r (Make t name kind) e = absurd (false≢true e)
-waiting r (Get t name key) e = absurd (false≢true e)
-waiting r (Set t name key value) e = absurd (false≢true e)
-waiting r (Commit t) e = absurd (false≢true e)
-
-serving_role : (role : Role) → is_active role ≡ true → (last : ℕ) (r : Open) (images : Areas → Type 0) (m : Machine) → AsRole role last r images m → Serving last r images m
-serving_role Other on last r images m s = absurd (false≢true on)
-serving_role (Primary epoch active) on last r images m s = s
-
-pub client_waits : (k : Kept) (r : Open) (call : Call) (images : Areas → Type 0) → k.booted ≡ true → k.replica ≡ Some r → waits r call ≡ true → (m : Machine) → StandsFor k images m → IsUnbuilt m (Client 0 call) × StillHolds m images
-client_waits k r call images booted there wait m s =
-    let w = waiting r call wait in
-    let serving = serving_role r.role w.1.0 k.last r images m (stands_open k r images m booted there s) in
-    let runs = runs_live k.last r images m serving (Some w.1.1.0) w.1.1.1 in
-    let P : Call → Type 0 = λ c. IsUnbuilt m (Client 0 c) in
-    (subst P (sym w.0) (unbuilt_beside r.begins r.shown r.seen (here w.1.1.0) m runs.0), stands_still k images m s)
+pub client_short : (k : Kept) (r : Open) (call : Call) (before now : Areas → Type 0) → k.booted ≡ true → k.replica ≡ Some r → CallFits call → ((log : Log) → IsOpen r log before → HoldsSome r (steps.Client call) log now) → (m : Machine) → StandsFor k before m → StillHolds m now
+client_short k r call before now booted there fits some m s = call_short k.last r call before now m fits (stands_open k r before m booted there s) some
 
 -- ---- a closed replica, and the time before the boot
 
@@ -108,10 +74,10 @@ client_down k number call images lines booted none later is m s =
       is_shut = record { acknowledged = shut_there.acknowledged; txns = serves.1.0; was_active = shut_there.was_active; shown = shut_there.shown; is = serves.1.1 };
       sound = λ a held. let l = c.sound a held in (l.0, l.1, sound_later c.entries k.last number l.0 (omega (arith, later)) l.2);
     } in
-    let P : Machine → Type 0 = λ at. IsWhole at (Client 0 call) (says.Down 0 ∷ []) × (Closed number images (moved at (Client 0 call) (says.Down 0 ∷ [])) × (IsUnbuilt at (Client 0 call) → ⊥)) in
-    let all : P m = subst P (sym shut_there.is) (serves.0, (then, serves.2)) in
-    let Q : List Observation → Type 0 = λ ls. IsWhole m (Client 0 call) ls × StandsFor (record k { last = number }) images (moved m (Client 0 call) ls) × (IsUnbuilt m (Client 0 call) → ⊥) × StillHolds m images in
-    subst Q (sym is) (all.0, rw (booted, none) all.1.0, all.1.1, stands_still k images m s)
+    let P : Machine → Type 0 = λ at. IsWhole at (Client 0 call) (says.Down 0 ∷ []) × Closed number images (moved at (Client 0 call) (says.Down 0 ∷ [])) in
+    let all : P m = subst P (sym shut_there.is) (serves.0, then) in
+    let Q : List Observation → Type 0 = λ ls. IsWhole m (Client 0 call) ls × StandsFor (record k { last = number }) images (moved m (Client 0 call) ls) × StillHolds m images in
+    subst Q (sym is) (all.0, rw (booted, none) all.1, stands_still k images m s)
 
 new_of : (k : Kept) (images : Areas → Type 0) (m : Machine) → k.booted ≡ false → StandsFor k images m → IsNew k images m
 new_of k images m booted s = subst (λ b. MatchBool b (AsReplica k.replica k.last images m) (IsNew k images m)) booted s
@@ -120,27 +86,20 @@ pub client_new : (k : Kept) (number : ℕ) (call : Call) (images : Areas → Typ
 client_new k number call images lines booted is m s =
     let new = new_of k images m booted s in
     let serves = refused_serves empty_machine (Client 0 call) (says.Refused 9) refl in
-    let P : Machine → Type 0 = λ at. IsWhole at (Client 0 call) (says.Refused 9 ∷ []) × ((moved at (Client 0 call) (says.Refused 9 ∷ []) ≡ empty_machine) × (IsUnbuilt at (Client 0 call) → ⊥)) in
-    let all : P m = subst P (sym new.is) (serves.0, (serves.1, not_before call)) in
-    let then : IsNew (record k { last = number }) images (moved m (Client 0 call) (says.Refused 9 ∷ [])) = record { is = all.1.0; closed = new.closed; empty = new.empty } in
-    let Q : List Observation → Type 0 = λ ls. IsWhole m (Client 0 call) ls × StandsFor (record k { last = number }) images (moved m (Client 0 call) ls) × (IsUnbuilt m (Client 0 call) → ⊥) × StillHolds m images in
-    subst Q (sym is) (all.0, subst (λ b. MatchBool b (AsReplica k.replica number images (moved m (Client 0 call) (says.Refused 9 ∷ []))) (IsNew (record k { last = number }) images (moved m (Client 0 call) (says.Refused 9 ∷ [])))) (sym booted) then, all.1.1, stands_still k images m s)
-  where
-    not_before : (c : Call) → IsUnbuilt empty_machine (Client 0 c) → ⊥
-    not_before Begin u = none-some (says.Refused 9) (sym u.0)
-    not_before (Make t name kind) u = u
-    not_before (Get t name key) u = u
-    not_before (Set t name key value) u = u
-    not_before (Commit t) u = u
+    let P : Machine → Type 0 = λ at. IsWhole at (Client 0 call) (says.Refused 9 ∷ []) × (moved at (Client 0 call) (says.Refused 9 ∷ []) ≡ empty_machine) in
+    let all : P m = subst P (sym new.is) (serves.0, serves.1) in
+    let then : IsNew (record k { last = number }) images (moved m (Client 0 call) (says.Refused 9 ∷ [])) = record { is = all.1; closed = new.closed; empty = new.empty } in
+    let Q : List Observation → Type 0 = λ ls. IsWhole m (Client 0 call) ls × StandsFor (record k { last = number }) images (moved m (Client 0 call) ls) × StillHolds m images in
+    subst Q (sym is) (all.0, subst (λ b. MatchBool b (AsReplica k.replica number images (moved m (Client 0 call) (says.Refused 9 ∷ []))) (IsNew (record k { last = number }) images (moved m (Client 0 call) (says.Refused 9 ∷ [])))) (sym booted) then, stands_still k images m s)
 
 -- ---- what the steps of a call need
 
-role_there : (role : Role) (last : ℕ) (r : Open) (images : Areas → Type 0) (m : Machine) → AsRole role last r images m → ((log : Log) × IsOpen r log images) × ((r.last.0 ≤ 3 * last) × (r.begins ≤ last))
+role_there : (role : Role) (last : ℕ) (r : Open) (images : Areas → Type 0) (m : Machine) → AsRole role last r images m → ((log : Log) × IsOpen r log images) × ((r.last.0 ≤ 3 * last) × (r.front.begins ≤ last))
 role_there Other last r images m s = ((s.log, s.is_open), (let l = s.is_open.agrees.last in let k = s.sound.short in omega (arith, l, k), s.few))
 role_there (Primary epoch active) last r images m s = ((s.log, s.is_open), (let l = s.is_open.agrees.last in let k = s.short in omega (arith, l, k), s.few))
 
 -- an open replica of a booted world, with its log
-pub client_there : (k : Kept) (r : Open) (images : Areas → Type 0) (m : Machine) → k.booted ≡ true → k.replica ≡ Some r → StandsFor k images m → ((log : Log) × IsOpen r log images) × ((r.last.0 ≤ 3 * k.last) × (r.begins ≤ k.last))
+pub client_there : (k : Kept) (r : Open) (images : Areas → Type 0) (m : Machine) → k.booted ≡ true → k.replica ≡ Some r → StandsFor k images m → ((log : Log) × IsOpen r log images) × ((r.last.0 ≤ 3 * k.last) × (r.front.begins ≤ k.last))
 client_there k r images m booted there s = role_there r.role k.last r images m (stands_open k r images m booted there s)
 
 -- ---- results

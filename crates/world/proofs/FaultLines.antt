@@ -3,20 +3,20 @@ use Rattle.std.proofs.Common.{◌≡◌, ◌∙◌, ℕ, ◌≤◌, List, [], �
 use Rattle.std.specs.Prelude.{is_some, is_none}
 use Rattle.std.specs.Option.{option_map_or}
 use Rattle.std.specs.List.{list_any}
-use Rattle.std.specs.Map.{lookup}
 use Rattle.std.proofs.lemmas.Bool.{or_right, cond-false, le-leb}
 use Rattle.rc_base.specs.declared.ids.TxnId.{TxnId}
-use Rattle.rc_base.specs.Ids.{is_txn}
 use Rattle.script_text.specs.declared.event.Event.{Event}
-use Rattle.script_text.specs.declared.event.Event.TheVariants.{Boot, Client, Arm, Crash, Reboot, Inspect}
+use Rattle.script_text.specs.declared.event.Event.TheVariants.{Boot, Client, Arm, Crash, Reboot, Inspect, Survey, Appoint, Activate}
 use Rattle.script_text.specs.declared.event.Call.{Call}
-use Rattle.script_text.specs.declared.event.Call.TheVariants.{Begin, Make, Get, Set, Commit}
+use Rattle.script_text.specs.declared.event.Call.TheVariants.{Begin, Make, Get, GetForUpdate, Set, Add, Delete, Commit, Abort}
 use Rattle.order_machine.specs.declared.observation.Observation.{Observation}
 use Rattle.order_machine.specs.declared.observation.Observation.TheVariants as says
 use Rattle.order_machine.specs.Order.{Entry}
-use Rattle.order_machine.specs.Machine.{Machine, Txn, replica, closed, ended_at, never_opened, is_live, put_role}
-use Rattle.order_machine.specs.Answers.{answer}
-use Rattle.order_machine.specs.Rows.{Position, HoldsBehind, IsComplete, May, refusal, opened, at_start, asking, after, showing, logs, event_primary, is_boot, has_answer, with_first_role, new_role, first_epoch}
+use Rattle.order_machine.specs.Machine.{Machine, Txn, replica, closed, ended_at, never_opened, put_role, put_txn, put_grants}
+use Rattle.key_locks.specs.Grants.{Grant, released}
+use Rattle.order_machine.specs.Locking.{locks_at, taken}
+use Rattle.order_machine.specs.Answers.{answer, seen}
+use Rattle.order_machine.specs.Rows.{Position, HoldsBehind, IsComplete, May, refusal, opened, at_start, asking, asking_locks, going_at, after, showing, logs, failed, is_boot, has_answer, with_first_role, new_role, first_epoch}
 use Rattle.order_machine.specs.Legal.{Lines, behind, IsServed, IsWhole, moved}
 use Rattle.order_machine.proofs.Lists.{at_written}
 use Rattle.world.specs.Standing.{serving, shut, standing}
@@ -25,35 +25,53 @@ use Rattle.world.proofs.WithoutRole.{holds_without_role}
 
 -- ---- in the step of a call
 
--- as a call is asked at most the transactions change
-asking_stands : (entries : List Entry) (acknowledged : List TxnId) (shown begins : ℕ) (txns : List (TxnId × Txn)) (was_active : Bool) (call : Call) →
-    (others : List (TxnId × Txn)) × (asking (standing entries acknowledged (serving shown begins) txns was_active) 0 call ≡ standing entries acknowledged (serving shown begins) others was_active)
-asking_stands entries acknowledged shown begins txns was_active Begin = (txns, refl)
-asking_stands entries acknowledged shown begins txns was_active (Make t name kind) = (txns, refl)
-asking_stands entries acknowledged shown begins txns was_active (Get t name key) = (txns, refl)
-asking_stands entries acknowledged shown begins txns was_active (Set t name key value) = (txns, refl)
-asking_stands entries acknowledged shown begins txns was_active (Commit t) = by_live (is_live (with_txns txns) 0 t) (lookup (is_txn t) txns)
-  where
-    with_txns : List (TxnId × Txn) → Machine
-    with_txns others = standing entries acknowledged (serving shown begins) others was_active
+-- as a call is asked at most the transactions and the grants change
+abbrev Asked : List Entry → List TxnId → ℕ → ℕ → Bool → Machine → Type 0
+Asked entries acknowledged shown begins was_active m = (others : List (TxnId × Txn)) × ((grants : List Grant) × (m ≡ standing entries acknowledged (serving shown begins grants) others was_active))
 
-    by_live : (live : Bool) (o : Option Txn) → (others : List (TxnId × Txn)) × (cond live (option_map_or (λ x. with_txns ((t, record x { live = false; asked = true }) ∷ txns)) o (with_txns txns)) (with_txns txns) ≡ with_txns others)
-    by_live false o = (txns, refl)
-    by_live true None = (txns, refl)
-    by_live true (Some x) = ((t, record x { live = false; asked = true }) ∷ txns, refl)
+by_going : (entries : List Entry) (acknowledged : List TxnId) (shown begins : ℕ) (was_active : Bool) (f : Txn → Machine) (m : Machine) → ((x : Txn) → Asked entries acknowledged shown begins was_active (f x)) → Asked entries acknowledged shown begins was_active m → (o : Option Txn) → Asked entries acknowledged shown begins was_active (option_map_or f o m)
+by_going entries acknowledged shown begins was_active f m each same None = same
+by_going entries acknowledged shown begins was_active f m each same (Some x) = each x
+
+asking_stands : (entries : List Entry) (acknowledged : List TxnId) (shown begins : ℕ) (grants : List Grant) (txns : List (TxnId × Txn)) (was_active : Bool) (call : Call) →
+    Asked entries acknowledged shown begins was_active (asking (standing entries acknowledged (serving shown begins grants) txns was_active) 0 call)
+asking_stands entries acknowledged shown begins grants txns was_active call = by call
+  where
+    m : Machine
+    m = standing entries acknowledged (serving shown begins grants) txns was_active
+
+    same : Asked entries acknowledged shown begins was_active m
+    same = (txns, (grants, refl))
+
+    locks : (t : TxnId) (c : Call) → Asked entries acknowledged shown begins was_active (asking_locks m 0 t c)
+    locks t c = by_going entries acknowledged shown begins was_active (λ x. put_grants m 0 (taken grants t (locks_at (seen m 0 x) c))) m (λ x. (txns, (taken grants t (locks_at (seen m 0 x) c), refl))) same (going_at m 0 t)
+
+    by : (c : Call) → Asked entries acknowledged shown begins was_active (asking m 0 c)
+    by Begin = same
+    by (Make t name kind) = locks t (Make t name kind)
+    by (Get t name key) = locks t (Get t name key)
+    by (GetForUpdate t name key) = locks t (GetForUpdate t name key)
+    by (Set t name key value) = locks t (Set t name key value)
+    by (Add t name key value) = locks t (Add t name key value)
+    by (Delete t name key) = locks t (Delete t name key)
+    by (Commit t) = by_going entries acknowledged shown begins was_active (λ x. put_txn m t (record x { live = false; asked = true })) m (λ x. ((t, record x { live = false; asked = true }) ∷ txns, (grants, refl))) same (going_at m 0 t)
+    by (Abort t) = by_going entries acknowledged shown begins was_active (λ x. put_txn (put_grants m 0 (released grants t)) t (record x { live = false })) m (λ x. ((t, record x { live = false }) ∷ txns, (released grants t, refl))) same (going_at m 0 t)
 
 -- a fault stands in place of the answer of a call that logs
-pub call_faults : (entries : List Entry) (acknowledged : List TxnId) (shown begins : ℕ) (txns : List (TxnId × Txn)) (was_active : Bool) (call : Call) → logs (answer (standing entries acknowledged (serving shown begins) txns was_active) 0 call) ≡ true →
-    IsWhole (standing entries acknowledged (serving shown begins) txns was_active) (Client 0 call) (says.Fault 0 ∷ [])
-    × ((others : List (TxnId × Txn)) × (moved (standing entries acknowledged (serving shown begins) txns was_active) (Client 0 call) (says.Fault 0 ∷ []) ≡ standing entries acknowledged (shut shown) others was_active))
-call_faults entries acknowledged shown begins txns was_active call logged =
-    let m : Machine = standing entries acknowledged (serving shown begins) txns was_active in
-    let asked = asking_stands entries acknowledged shown begins txns was_active call in
-    let n : Machine = standing entries acknowledged (serving shown begins) asked.0 was_active in
-    let p : Position = at_start n (Client 0 call) (answer m 0 call) [] in
-    served_from m (Client 0 call) (says.Fault 0 ∷ []) p (λ at. (others : List (TxnId × Txn)) × (at ≡ standing entries acknowledged (shut shown) others was_active)) refl (ap (λ at. at_start at (Client 0 call) (answer m 0 call) []) asked.1)
+pub call_faults : (entries : List Entry) (acknowledged : List TxnId) (shown begins : ℕ) (grants : List Grant) (txns : List (TxnId × Txn)) (was_active : Bool) (call : Call) →
+    (let m : Machine = standing entries acknowledged (serving shown begins grants) txns was_active in
+    logs (asking m 0 call) call (answer m 0 call) ≡ true →
+    IsWhole m (Client 0 call) (says.Fault 0 ∷ [])
+    × ((others : List (TxnId × Txn)) × (moved m (Client 0 call) (says.Fault 0 ∷ []) ≡ standing entries acknowledged (shut shown) others was_active)))
+call_faults entries acknowledged shown begins grants txns was_active call = λ logged.
+    let m : Machine = standing entries acknowledged (serving shown begins grants) txns was_active in
+    let asked = asking_stands entries acknowledged shown begins grants txns was_active call in
+    let n : Machine = standing entries acknowledged (serving shown begins asked.1.0) asked.0 was_active in
+    let p : Position = at_start n (Client 0 call) 0 (answer m 0 call) [] in
+    let logged_there : logs n call (answer m 0 call) ≡ true = ap (λ k. logs k call (answer m 0 call)) (sym asked.1.1) ∙ logged in
+    served_from m (Client 0 call) (says.Fault 0 ∷ []) p (λ at. (others : List (TxnId × Txn)) × (at ≡ standing entries acknowledged (shut shown) others was_active)) refl (ap (λ at. at_start at (Client 0 call) 0 (answer m 0 call) []) asked.1.1)
     (record {
-      may = (record { named = refl; in_rank = refl; next = refl; goes_on = refl; row = inl (refl, refl, logged, refl) }, tt);
+      may = (record { named = refl; in_rank = refl; next = refl; goes_on = refl; row = inl (refl, refl, logged_there, refl) }, tt);
       complete = record { opened = refl; grown = refl; mounted = refl; told = refl; answered = refl };
       holds = holds_without_role entries acknowledged (shut shown) (ended_at 0 asked.0) was_active refl;
     })
@@ -92,11 +110,14 @@ of_after event p (says.State r n) h = record { same = h.same; rank = omega arith
 of_after event p (says.Rows words) h = record { same = h.same; rank = omega arith }
 of_after event p (says.Refused part) h = record { same = h.same; rank = omega arith }
 of_after event p says.IgnoredUp h = record { same = h.same; rank = omega arith }
+of_after event p (says.IgnoredOldEpoch f e) h = record { same = h.same; rank = omega arith }
+of_after event p (says.Progress r e l) h = record { same = h.same; rank = omega arith }
 of_after event p (says.Txn t) h = record { same = h.same; rank = omega arith }
 of_after event p says.Done h = record { same = h.same; rank = omega arith }
 of_after event p (says.Down q) h = record { same = h.same; rank = omega arith }
 of_after event p (says.NotActive q) h = record { same = h.same; rank = omega arith }
 of_after event p (says.Ended t) h = record { same = h.same; rank = omega arith }
+of_after event p (says.Locked t) h = record { same = h.same; rank = omega arith }
 of_after event p says.True h = record { same = h.same; rank = omega arith }
 of_after event p says.False h = record { same = h.same; rank = omega arith }
 of_after event p (says.Value value) h = record { same = h.same; rank = omega arith }
@@ -115,6 +136,9 @@ of_opened m (Arm r calls) = record { same = refl; rank = omega arith }
 of_opened m (Crash r pick) = record { same = refl; rank = omega arith }
 of_opened m (Reboot r) = record { same = refl; rank = omega arith }
 of_opened m (Inspect r) = record { same = refl; rank = omega arith }
+of_opened m (Survey r e) = record { same = refl; rank = omega arith }
+of_opened m (Appoint e p members) = record { same = refl; rank = omega arith }
+of_opened m (Activate e) = record { same = refl; rank = omega arith }
 
 -- the event has its answer
 answered_has : (p : Position) (event : Event) → p.answered ≡ true → has_answer p event ≡ true
@@ -124,9 +148,21 @@ answered_has p (Arm r calls) e = rw e refl
 answered_has p (Crash r pick) e = rw e refl
 answered_has p (Reboot r) e = refl
 answered_has p (Inspect r) e = rw e refl
+answered_has p (Survey r epoch) e = rw e refl
+answered_has p (Appoint epoch primary members) e = rw e refl
+answered_has p (Activate epoch) e = rw e refl
+
+-- a boot, if it is one, has this primary
+abbrev pub boots_at : Event → ℕ → Type 0
+boots_at (Boot p members) r = p ≡ r
+boots_at _ r = Unit {0}
+
+abbrev pub IsNoSurvey : Event → Type 0
+IsNoSurvey (Survey r e) = ⊥
+IsNoSurvey _ = Unit {0}
 
 -- a closed primary has no first role
-no_first_role : (m : Machine) (event : Event) (mounts : List ℕ) → event_primary event ≡ 0 → (replica m 0).up ≡ false → with_first_role m event mounts ≡ m
+no_first_role : (m : Machine) (event : Event) (mounts : List ℕ) → boots_at event 0 → (replica m 0).up ≡ false → with_first_role m event mounts ≡ m
 no_first_role m (Boot p members) [] is down =
     let there : (replica m p).up ≡ false = subst (λ r. (replica m r).up ≡ false) (sym is) down in
     cond-false (replica m p).up (put_role m p (Some (new_role first_epoch))) m there
@@ -136,13 +172,30 @@ no_first_role m (Arm r calls) mounts is down = refl
 no_first_role m (Crash r pick) mounts is down = refl
 no_first_role m (Reboot r) mounts is down = refl
 no_first_role m (Inspect r) mounts is down = refl
+no_first_role m (Survey r e) mounts is down = refl
+no_first_role m (Appoint e p members) mounts is down = refl
+no_first_role m (Activate e) mounts is down = refl
 
 closed_down : (m : Machine) → (replica (closed m 0) 0).up ≡ false
-closed_down m = at_written (λ r. r.up ≡ false) m.replicas 0 (record (replica m 0) { up = false; role = None }) never_opened refl refl
+closed_down m = at_written (λ r. r.up ≡ false) m.replicas 0 (record (replica m 0) { up = false; role = None; grants = [] }) never_opened refl refl
+
+-- what the fault does to the machine: it closes the replica, in an event that is no survey
+fails_closed : (m : Machine) (event : Event) → IsNoSurvey event → failed m event 0 ≡ closed m 0
+fails_closed m (Boot p members) none = refl
+fails_closed m (Client r call) none = refl
+fails_closed m (Arm r calls) none = refl
+fails_closed m (Crash r pick) none = refl
+fails_closed m (Reboot r) none = refl
+fails_closed m (Inspect r) none = refl
+fails_closed m (Survey r e) none = absurd none
+fails_closed m (Appoint e p members) none = refl
+fails_closed m (Activate e) none = refl
 
 -- the machine behind the fault
-fault_closes : (event : Event) (p : Position) → IsOf event p → event_primary event ≡ 0 → (after p (says.Fault 0)).machine ≡ closed p.machine 0
-fault_closes event p h is = no_first_role (closed p.machine 0) p.event (drop 1 p.mounts) (ap event_primary h.same ∙ is) (closed_down p.machine)
+fault_closes : (event : Event) (p : Position) → IsOf event p → boots_at event 0 → IsNoSurvey event → (after p (says.Fault 0)).machine ≡ closed p.machine 0
+fault_closes event p h is none =
+    ap (λ m. with_first_role m p.event (drop 1 p.mounts)) (fails_closed p.machine p.event (subst IsNoSurvey (sym h.same) none))
+    ∙ no_first_role (closed p.machine 0) p.event (drop 1 p.mounts) (subst (λ e. boots_at e 0) (sym h.same) is) (closed_down p.machine)
 
 -- it may come behind all lines of an event with its answer, in which the replica became active or showed more
 fault_may : (event : Event) (p : Position) → IsOf event p → IsComplete p → HoldsBehind p.machine → list_any (λ q. q == 0) p.rose ≡ true → p.answered ≡ true → (replica p.machine 0).up ≡ true → p.faulted ≡ [] → May p (says.Fault 0)
@@ -154,16 +207,16 @@ fault_may event p h complete holds rose answered up whole = record {
   row = inr (record { rose = rose; answered = answered; nothing_due = λ t pending. holds.not_shown 0 t pending; is_up = up });
 }
 
-pub fault_behind : (m : Machine) (event : Event) (lines : List Observation) → event_primary event ≡ 0 → refusal m event ≡ None → IsWhole m event lines →
+pub fault_behind : (m : Machine) (event : Event) (lines : List Observation) → boots_at event 0 → IsNoSurvey event → refusal m event ≡ None → IsWhole m event lines →
     list_any (λ q. q == 0) (behind (opened m event) lines).rose ≡ true → (behind (opened m event) lines).answered ≡ true → (replica (behind (opened m event) lines).machine 0).up ≡ true → (behind (opened m event) lines).faulted ≡ [] →
     HoldsBehind (closed (behind (opened m event) lines).machine 0) →
     IsWhole m event (lines ++ says.Fault 0 ∷ []) × (moved m event (lines ++ says.Fault 0 ∷ []) ≡ closed (moved m event lines) 0)
-fault_behind m event lines at_zero none whole rose answered up unfaulted holds =
+fault_behind m event lines at_zero no_survey none whole rose answered up unfaulted holds =
     let p : Position = behind (opened m event) lines in
     let kept : IsOf event p = of_behind event (opened m event) lines (of_opened m event) in
     let served : IsServed (opened m event) lines = subst (λ o. MatchOption o (IsServed (opened m event) lines) (λ refused. lines ≡ refused ∷ [])) none whole in
     let complete = served.complete in
-    let closes : (after p (says.Fault 0)).machine ≡ closed p.machine 0 = fault_closes event p kept at_zero in
+    let closes : (after p (says.Fault 0)).machine ≡ closed p.machine 0 = fault_closes event p kept at_zero no_survey in
     let then : behind (opened m event) (lines ++ says.Fault 0 ∷ []) ≡ after p (says.Fault 0) = behind_more (opened m event) lines (says.Fault 0 ∷ []) in
     let moves : moved m event lines ≡ p.machine = rw none refl in
     served_from m event (lines ++ says.Fault 0 ∷ []) (opened m event) (λ at. at ≡ closed (moved m event lines) 0) none refl

@@ -14,14 +14,17 @@ use Rattle.script_text.specs.declared.event.Call.{Call}
 use Rattle.order_machine.specs.declared.observation.Observation.{Observation}
 use Rattle.order_machine.specs.declared.observation.Observation.TheVariants as says
 use Rattle.order_machine.specs.declared.reply.Reply.{Reply}
-use Rattle.order_machine.specs.Answers.{plain, reply_at, txn_named}
+use Rattle.coll_model.specs.Effect.{folded}
+use Rattle.order_machine.specs.Answers.{plain, live_reply, txn_named}
+use Rattle.txn_front.specs.Front as front
+use Rattle.txn_front.specs.Front.{Going, going_of, txn_at}
 use Rattle.replica.specs.declared.step.StepEvent.TheVariants as steps
 use Rattle.replica.specs.Open.{Open}
-use Rattle.replica.specs.Step.{reply, served, is_active, outcome, quiet, shown_commit, next_txn, goes_on}
+use Rattle.replica.specs.Step.{reply, is_active, outcome, quiet, shown_commits, committed_by}
 use Rattle.world.specs.declared.error.WorldError.{WorldError}
 use Rattle.world.specs.Fleet.{faults_in, fault_lines, is_fault_of, RoseBy, TellsZero}
 use Rattle.world.specs.Steps.{told_by, order_line, cons_if, IsCutOff}
-use Rattle.world.proofs.Answer.{is_answer, reply_is}
+use Rattle.world.proofs.Answer.{is_answer, live_reply_is}
 
 -- ---- lists of lines
 
@@ -45,6 +48,7 @@ answer_faultless r (says.Refused part) is = refl
 answer_faultless r (says.Down q) is = refl
 answer_faultless r (says.NotActive q) is = refl
 answer_faultless r (says.Ended t) is = refl
+answer_faultless r (says.Locked t) is = refl
 answer_faultless r says.True is = refl
 answer_faultless r says.False is = refl
 answer_faultless r (says.Value value) is = refl
@@ -53,6 +57,8 @@ answer_faultless r says.Absent is = refl
 answer_faultless r says.WrongKind is = refl
 answer_faultless r (says.Fault q) is = absurd (false≢true is)
 answer_faultless r says.IgnoredUp is = refl
+answer_faultless r (says.IgnoredOldEpoch f e) is = refl
+answer_faultless r (says.Progress q e l) is = refl
 answer_faultless r (says.State q n) is = refl
 answer_faultless r (says.Rows words) is = refl
 
@@ -78,15 +84,15 @@ active_faultless r id false = refl
 reply_answers : (r : Open) (call : Call) (given : Reply) → reply r call ≡ Some given → is_answer given.answer ≡ true
 reply_answers r call given e = by_role (is_active r.role) e
   where
-    by_going : (t : TxnId) (b : Bool) → cond b (reply_at r.seen call) (Some (plain (says.Ended t))) ≡ Some given → is_answer given.answer ≡ true
-    by_going t true a = reply_is r.seen call given a
-    by_going t false a = subst (λ x. is_answer x.answer ≡ true) (same_Some (plain (says.Ended t)) given a) refl
+    by_going : (t : TxnId) (o : Option Going) → option_map_or (λ going. live_reply r.front.grants (folded r.contents going.ops) t call) o (Some (plain (says.Ended t))) ≡ Some given → is_answer given.answer ≡ true
+    by_going t None a = subst (λ x. is_answer x.answer ≡ true) (same_Some (plain (says.Ended t)) given a) refl
+    by_going t (Some g) a = live_reply_is r.front.grants (folded r.contents g.ops) t call given a
 
-    by_name : (o : Option TxnId) → option_map_or (λ txn. cond (goes_on r.live txn) (reply_at r.seen call) (Some (plain (says.Ended txn)))) o (Some (plain (says.Txn (next_txn r)))) ≡ Some given → is_answer given.answer ≡ true
-    by_name None a = subst (λ x. is_answer x.answer ≡ true) (same_Some (plain (says.Txn (next_txn r))) given a) refl
-    by_name (Some t) a = by_going t (goes_on r.live t) a
+    by_name : (o : Option TxnId) → option_map_or (λ t. option_map_or (λ going. live_reply r.front.grants (folded r.contents going.ops) t call) (going_of r.front t) (Some (plain (says.Ended t)))) o (Some (plain (says.Txn (txn_at r.front (r.front.begins + 1))))) ≡ Some given → is_answer given.answer ≡ true
+    by_name None a = subst (λ x. is_answer x.answer ≡ true) (same_Some (plain (says.Txn (txn_at r.front (r.front.begins + 1)))) given a) refl
+    by_name (Some t) a = by_going t (going_of r.front t) a
 
-    by_role : (b : Bool) → cond b (served r call) (Some (plain (says.NotActive r.id))) ≡ Some given → is_answer given.answer ≡ true
+    by_role : (b : Bool) → cond b (front.told r.front r.contents call) (Some (plain (says.NotActive r.id))) ≡ Some given → is_answer given.answer ≡ true
     by_role true a = by_name (txn_named call) a
     by_role false a = subst (λ x. is_answer x.answer ≡ true) (same_Some (plain (says.NotActive r.id)) given a) refl
 
@@ -112,7 +118,7 @@ told_faultless q r call =
     let orders = map order_line out.commits in
     none_append q (((orders ++ view) ++ active) ++ acked) last (none_append q ((orders ++ view) ++ active) acked (none_append q (orders ++ view) active (none_append q orders view z1 z2) z3) z4) z5
   where
-    answers : (o : Option Reply) → reply r call ≡ o → (x : Observation) → (option_map_or (λ known. quiet r (Some known.answer)) o (shown_commit r)).answer ≡ Some x → is_answer x ≡ true
+    answers : (o : Option Reply) → reply r call ≡ o → (x : Observation) → (option_map_or (λ known. quiet r (Some known.answer)) o (shown_commits r (committed_by r (steps.Client call)))).answer ≡ Some x → is_answer x ≡ true
     answers None e x h = absurd (none-some x h)
     answers (Some given) e x h = subst (λ y. is_answer y ≡ true) (same_Some given.answer x h) (reply_answers r call given e)
 

@@ -51,7 +51,7 @@ up_role (Primary epoch active) last r images m s = rw s.runs.is refl
 -- ---- as time goes on
 
 serving_later : (last number : ℕ) (r : Open) (images : Areas → Type 0) (m : Machine) → last ≤ number → Serving last r images m → Serving number r images m
-serving_later last number r images m h s = record { runs = s.runs; log = s.log; is_open = s.is_open; epoch = s.epoch; commits = s.commits; short = let o = s.short in omega (arith, o, h); few = let o = s.few in omega (arith, o, h) }
+serving_later last number r images m h s = record { runs = s.runs; log = s.log; is_open = s.is_open; epoch = s.epoch; commits = s.commits; short = let o = s.short in omega (arith, o, h); few = let o = s.few in omega (arith, o, h); recorded = s.recorded }
 
 resting_later : (last number : ℕ) (r : Open) (images : Areas → Type 0) (m : Machine) → last ≤ number → Resting last r images m → Resting number r images m
 resting_later last number r images m h s = record { entries = s.entries; rests = s.rests; log = s.log; is_open = s.is_open; sound = sound_later s.entries last number s.log h s.sound; stable = s.stable; few = let o = s.few in omega (arith, o, h) }
@@ -87,7 +87,7 @@ open_within r log images now within o = record {
 
 role_within : (role : Role) (last : ℕ) (r : Open) (images now : Areas → Type 0) (m : Machine) → Within images now → AsRole role last r images m → AsRole role last r now m
 role_within Other last r images now m within s = record { entries = s.entries; rests = s.rests; log = s.log; is_open = open_within r s.log images now within s.is_open; sound = s.sound; stable = s.stable; few = s.few }
-role_within (Primary epoch active) last r images now m within s = record { runs = s.runs; log = s.log; is_open = open_within r s.log images now within s.is_open; epoch = s.epoch; commits = s.commits; short = s.short; few = s.few }
+role_within (Primary epoch active) last r images now m within s = record { runs = s.runs; log = s.log; is_open = open_within r s.log images now within s.is_open; epoch = s.epoch; commits = s.commits; short = s.short; few = s.few; recorded = s.recorded }
 
 replica_within : (o : Option Open) (last : ℕ) (images now : Areas → Type 0) (m : Machine) → Within images now → AsReplica o last images m → AsReplica o last now m
 replica_within None last images now m within s = record { entries = s.entries; is_shut = s.is_shut; sound = λ c is. s.sound c (within c is) }

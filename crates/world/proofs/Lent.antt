@@ -3,10 +3,10 @@ use Rattle.std.proofs.Common.{◌≡◌, ◌∙◌, sym, subst, ℕ, zero, suc, 
 use Rattle.std.proofs.lemmas.Bool.{false≢true}
 use Rattle.disk_model.specs.Disk.{Areas}
 use Rattle.script_text.specs.declared.event.Event.{Event}
-use Rattle.script_text.specs.declared.event.Event.TheVariants.{Boot, Client, Arm, Crash, Reboot, Inspect}
+use Rattle.script_text.specs.declared.event.Event.TheVariants.{Boot, Client, Arm, Crash, Reboot, Inspect, Survey, Appoint, Activate}
 use Rattle.order_machine.specs.declared.observation.Observation.{Observation}
 use Rattle.order_machine.specs.Machine.{Machine}
-use Rattle.order_machine.specs.Rows.{is_actor}
+use Rattle.order_machine.specs.Rows.{event_primary, is_actor}
 use Rattle.world.specs.declared.error.WorldError.{WorldError}
 use Rattle.world.specs.declared.error.WorldError.TheVariants as errors
 use Rattle.world.specs.Fleet.{images_of, faults_of, fault_lines, RoseBy, TellsZero}
@@ -23,27 +23,29 @@ serves_lent images (x ∷ xs) d d' old new event result nine first s = subst (λ
 
 -- whatever the result, the disk holds what was acknowledged before
 still_by : (old new : Kept) (before now : Areas → Type 0) (event : Event) (result : Result (List Observation) WorldError) → Serves old new before now event result → (m : Machine) → StandsFor old before m → StillHolds m now
-still_by old new before now event (Ok lines) s m stands = (s m stands).3
+still_by old new before now event (Ok lines) s m stands = (s m stands).2
 still_by old new before now event (Err errors.NoMemory) s m stands = s m stands
 still_by old new before now event (Err (errors.Limit which lines)) s m stands = absurd s
-still_by old new before now event (Err (errors.Unbuilt lines)) s m stands = (s.1 m stands).1
 
 pub still_lent : {M : Type 0} (images : M → Areas → Type 0) (items : List M) (d d' : M) (old new : Kept) (event : Event) (result : Result (List Observation) WorldError) → length items ≡ 9 → d ≡ get_or items 0 d → Serves old new (images d) (images d') event result → (m : Machine) → StandsFor old (images_of images items 0) m → StillHolds m (images_of images (slice_set items 0 d') 0)
 still_lent images items d d' old new event result nine first s m stands = still_by old new (images_of images items 0) (images_of images (slice_set items 0 d') 0) event result (serves_lent images items d d' old new event result nine first s) m stands
 
 -- no event is another replica's
-zero_acts : (event : Event) → IsHere event → is_actor event 0 ≡ true
-zero_acts (Boot p members) here = subst (λ ms. is_actor (Boot p ms) 0 ≡ true) (sym here.1) refl
-zero_acts (Client r call) here = subst (λ n. (n == 0) ≡ true) (sym here.0) refl
-zero_acts (Arm r calls) here = subst (λ n. (n == 0) ≡ true) (sym here.0) refl
-zero_acts (Crash r pick) here = subst (λ n. (n == 0) ≡ true) (sym here) refl
-zero_acts (Reboot r) here = subst (λ n. (n == 0) ≡ true) (sym here) refl
-zero_acts (Inspect r) here = subst (λ n. (n == 0) ≡ true) (sym here) refl
+zero_acts : (m : Machine) (event : Event) → IsHere event → is_actor (event_primary m event) event 0 ≡ true
+zero_acts m (Boot p members) here = subst (λ ms. is_actor p (Boot p ms) 0 ≡ true) (sym here.1) refl
+zero_acts m (Client r call) here = subst (λ n. (n == 0) ≡ true) (sym here.0) refl
+zero_acts m (Arm r calls) here = subst (λ n. (n == 0) ≡ true) (sym here.0) refl
+zero_acts m (Crash r pick) here = subst (λ n. (n == 0) ≡ true) (sym here) refl
+zero_acts m (Reboot r) here = subst (λ n. (n == 0) ≡ true) (sym here) refl
+zero_acts m (Inspect r) here = subst (λ n. (n == 0) ≡ true) (sym here) refl
+zero_acts m (Survey r e) here = absurd here
+zero_acts m (Appoint e p members) here = absurd here
+zero_acts m (Activate e) here = absurd here
 
-pub elsewhere_lent : {M : Type 0} (items : List M) (d' : M) (event : Event) → IsHere event → (r : ℕ) → is_actor event r ≡ false → slice_get (slice_set items 0 d') r ≡ slice_get items r
-elsewhere_lent items d' event here zero other = absurd (false≢true (sym other ∙ zero_acts event here))
-elsewhere_lent [] d' event here (suc r) other = refl
-elsewhere_lent (x ∷ xs) d' event here (suc r) other = refl
+pub elsewhere_lent : {M : Type 0} (items : List M) (d' : M) (m : Machine) (event : Event) → IsHere event → (r : ℕ) → is_actor (event_primary m event) event r ≡ false → slice_get (slice_set items 0 d') r ≡ slice_get items r
+elsewhere_lent items d' m event here zero other = absurd (false≢true (sym other ∙ zero_acts m event here))
+elsewhere_lent [] d' m event here (suc r) other = refl
+elsewhere_lent (x ∷ xs) d' m event here (suc r) other = refl
 
 -- ---- faults
 

@@ -10,8 +10,9 @@ use Rattle.rc_base.specs.Ids.{is_txn}
 use Rattle.order_machine.specs.Order.{Entry}
 use Rattle.order_machine.specs.Machine.{Machine, Txn, never_opened, is_pending, is_active, is_alone, has_role}
 use Rattle.order_machine.specs.Rows.{HoldsBehind}
-use Rattle.world.specs.Kept.{Going}
-use Rattle.world.specs.World.{running, Runs}
+use Rattle.key_locks.specs.Grants.{Grant}
+use Rattle.txn_front.specs.Front.{Fronted}
+use Rattle.world.specs.Running.{running, Runs}
 
 -- the replicas behind the first were never opened
 pub never_there : (n k : ℕ) → get_or (replicate n never_opened) k never_opened ≡ never_opened
@@ -32,32 +33,36 @@ asked_is_done (Some x) r has acked h = by_flag x.asked (λ e. h x refl e)
     by_flag true g = by_ack (x.home == r) has acked (g refl)
     by_flag false g = refl
 
-pub nothing_pending : (begins shown : ℕ) (contents : State) (live : Option Going) (m : Machine) → Runs begins shown contents live m → (r : ℕ) (t : TxnId) → is_pending m r t ≡ false
-nothing_pending begins shown contents live m h r t =
+pub nothing_pending : (front : Fronted) (shown : ℕ) (contents : State) (m : Machine) → Runs front shown contents m → (r : ℕ) (t : TxnId) → is_pending m r t ≡ false
+nothing_pending front shown contents m h r t =
     let P : Machine → Type 0 = λ n. is_pending n r t ≡ false in
-    subst P (sym h.is) (asked_is_done (lookup (is_txn t) h.txns) r (has_role (running h.entries h.acknowledged h.txns begins) r t.epoch) (list_any (is_txn t) h.acknowledged) (λ x e f. (h.each t x e).asked f))
+    subst P (sym h.is) (asked_is_done (lookup (is_txn t) h.txns) r (has_role (running h.entries h.acknowledged h.txns front.begins h.grants) r t.epoch) (list_any (is_txn t) h.acknowledged) (λ x e f. (h.each t x e).asked f))
 
-pub only_primary : (entries : List Entry) (acknowledged : List TxnId) (txns : List (TxnId × Txn)) (begins r : ℕ) → is_alone (running entries acknowledged txns begins) r ≡ true → is_active (running entries acknowledged txns begins) r ≡ true
-only_primary entries acknowledged txns begins zero h = refl
-only_primary entries acknowledged txns begins (suc k) h = absurd (false≢true (let n = never_there 8 k in rw n at h))
+pub only_primary : (entries : List Entry) (acknowledged : List TxnId) (txns : List (TxnId × Txn)) (begins : ℕ) (grants : List Grant) (r : ℕ) → is_alone (running entries acknowledged txns begins grants) r ≡ true → is_active (running entries acknowledged txns begins grants) r ≡ true
+only_primary entries acknowledged txns begins grants zero h = refl
+only_primary entries acknowledged txns begins grants (suc k) h = absurd (false≢true (let n = never_there 8 k in rw n at h))
 
-pub holds_behind : (begins shown : ℕ) (contents : State) (live : Option Going) (m : Machine) → Runs begins shown contents live m → HoldsBehind m
-holds_behind begins shown contents live m h = record {
-  not_shown = λ r t p. absurd (let q = nothing_pending begins shown contents live m h r t in cc);
+pub holds_behind : (front : Fronted) (shown : ℕ) (contents : State) (m : Machine) → Runs front shown contents m → HoldsBehind m
+holds_behind front shown contents m h = record {
+  not_shown = λ r t p. absurd (let q = nothing_pending front shown contents m h r t in cc);
   alone = λ r a. (
     let P : Machine → Type 0 = λ n. is_alone n r ≡ true → is_active n r ≡ true in
-        subst P (sym h.is) (only_primary h.entries h.acknowledged h.txns begins r) a,
-    nothing_pending begins shown contents live m h r,
+        subst P (sym h.is) (only_primary h.entries h.acknowledged h.txns front.begins h.grants r) a,
+    nothing_pending front shown contents m h r,
   );
 }
 
 -- the same, of the machine written out
-unfoldable pub settled : (begins shown : ℕ) (contents : State) (live : Option Going) (m : Machine) (h : Runs begins shown contents live m) → Runs begins shown contents live (running h.entries h.acknowledged h.txns begins)
-settled begins shown contents live m h = record {
+unfoldable pub settled : (front : Fronted) (shown : ℕ) (contents : State) (m : Machine) (h : Runs front shown contents m) → Runs front shown contents (running h.entries h.acknowledged h.txns front.begins h.grants)
+settled front shown contents m h = record {
   entries = h.entries;
   acknowledged = h.acknowledged;
   txns = h.txns;
+  grants = h.grants;
   is = refl;
+  epoch = h.epoch;
+  alike = h.alike;
+  exclusive = h.exclusive;
   all_shown = h.all_shown;
   sees = h.sees;
   each = h.each;

@@ -17,9 +17,9 @@ use Rattle.order_machine.specs.Legal.{IsWhole, moved}
 use Rattle.replica.specs.declared.role.Role.{Role}
 use Rattle.replica.specs.declared.role.Role.TheVariants.{Other, Primary}
 use Rattle.replica.specs.Open as opens
-use Rattle.replica.specs.Open.{Open, AgreesWith, HasRole, commits_to, stable_in}
+use Rattle.replica.specs.Open.{Open, AgreesWith, HasRole, commits_to}
 use Rattle.world.specs.Disks.{as_commit}
-use Rattle.world.specs.Kept.{Kept, live_of}
+use Rattle.world.specs.Kept.{Kept}
 use Rattle.world.specs.World.{StandsFor, AsRole, Serves}
 use Rattle.world.specs.Standing.{resting}
 use Rattle.world.proofs.Asides.{arm_serves, inspect_serves, inspection}
@@ -30,7 +30,7 @@ use Rattle.world.proofs.WithoutRole.{holds_without_role}
 
 holds_role : (role : Role) (last : ℕ) (r : Open) (images : Areas → Type 0) (m : Machine) → AsRole role last r images m → HoldsBehind m
 holds_role Other last r images m s = subst HoldsBehind (sym s.rests.is) (holds_without_role s.entries s.rests.acknowledged (resting r.shown) s.rests.txns s.rests.was_active refl)
-holds_role (Primary epoch active) last r images m s = holds_behind r.begins r.shown r.seen (live_of r.live) m s.runs
+holds_role (Primary epoch active) last r images m s = holds_behind r.front r.shown r.contents m s.runs
 
 -- ---- arm
 
@@ -41,7 +41,7 @@ arm_does k new images now r calls number lines booted some rising within kept to
     let role = open_of k images m r booted some s in
     let done = arm_serves m calls (booted_stands k images m booted s) (up_role r.role k.last r images m role) (holds_role r.role k.last r images m role) in
     let later : StandsFor new now m = subst (λ w. StandsFor w now m) (sym kept) (stands_within (record k { last = number }) images now m within (stands_later k number images m rising s)) in
-    (done.0, subst (λ n. StandsFor new now n) (sym done.1) later, λ u. u, still_within images now m within (stands_still k images m s)))
+    (done.0, subst (λ n. StandsFor new now n) (sym done.1) later, still_within images now m within (stands_still k images m s)))
 
 -- ---- inspect
 
@@ -84,4 +84,4 @@ inspect_does k new images r number lines booted some rising kept told = λ m s.
     let is : inspection m ≡ lines = ap (λ state. says.State 0 (length (rows_of state)) ∷ map says.Rows (rows_of state)) (sym shows) ∙ sym told in
     let done = inspect_serves m (booted_stands k images m booted s) (up_role r.role k.last r images m role) (holds_role r.role k.last r images m role) in
     let later : StandsFor new images m = subst (λ w. StandsFor w images m) (sym kept) (stands_later k number images m rising s) in
-    (subst (IsWhole m (Inspect 0)) is done.0, subst (λ n. StandsFor new images n) (sym done.1 ∙ ap (moved m (Inspect 0)) is) later, λ u. u, stands_still k images m s)
+    (subst (IsWhole m (Inspect 0)) is done.0, subst (λ n. StandsFor new images n) (sym done.1 ∙ ap (moved m (Inspect 0)) is) later, stands_still k images m s)

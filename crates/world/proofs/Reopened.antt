@@ -12,7 +12,7 @@ use Rattle.world.specs.Standing.{resting, shut, standing}
 use Rattle.world.proofs.WithoutRole.{holds_without_role}
 
 abbrev pub crashed : Replica → Replica
-crashed first = record first { up = false; role = None }
+crashed first = record first { up = false; role = None; grants = [] }
 
 pub crash_serves : (entries : List Entry) (acknowledged : List TxnId) (first : Replica) (txns : List (TxnId × Txn)) (was_active : Bool) (pick : ℕ) →
     IsWhole (standing entries acknowledged first txns was_active) (Crash 0 pick) (says.Done ∷ [])

@@ -2,6 +2,7 @@
 use Rattle.std.proofs.Common.{◌≡◌, ◌∙◌, sym, ap, subst, refl, ℕ, ◌*◌, ◌≤◌, true, List, [], ◌∷◌, ◌++◌, length, map, Option, Some, None, Result, Ok, arith, length-append, ⊎_elim}
 use Rattle.std.specs.Option.{ForSome, IsSome, IfSome}
 use Rattle.std.proofs.lemmas.List.{length-map}
+use Rattle.rc_base.specs.Ids.{no_epoch}
 use Rattle.rc_base.specs.declared.no_memory.NoMemory.{NoMemory}
 use Rattle.disk_model.specs.Disk.{Areas, Each, Within, Only, Follows}
 use Rattle.txn_table.specs.declared.committed.Committed.{Committed}
@@ -17,6 +18,7 @@ use Rattle.order_machine.specs.declared.observation.Observation.TheVariants as s
 use Rattle.order_machine.specs.Order.{Entry}
 use Rattle.order_machine.specs.Machine.{Machine, ended_at}
 use Rattle.order_machine.specs.Legal.{IsWhole, moved}
+use Rattle.txn_front.specs.Front.{nothing}
 use Rattle.replica.specs.declared.role.Role.{Role}
 use Rattle.replica.specs.declared.role.Role.TheVariants.{Other, Primary}
 use Rattle.replica.specs.Open.{Open, commits_to, shown_in, stable_in}
@@ -63,7 +65,7 @@ crash_role Other last number r images now m pick rising within s =
       },
     )
 crash_role (Primary epoch active) last number r images now m pick rising within s =
-    let done = crash_serves s.runs.entries s.runs.acknowledged (serving (length s.runs.entries) r.begins) s.runs.txns true pick in
+    let done = crash_serves s.runs.entries s.runs.acknowledged (serving (length s.runs.entries) r.front.begins s.runs.grants) s.runs.txns true pick in
     subst (λ n. Crashes n pick number now) (sym s.runs.is) (
       done.0,
       record {
@@ -92,7 +94,7 @@ crash_does k new images now seen pick lines booted rising new_booted none left o
     subst (λ ls. Serves k new images now (Crash 0 pick) (Ok ls)) (sym told)
     (λ m s.
     let done = crash_replica k.replica k.last new.last images now m pick rising within (replica_of k images m booted s) in
-    (done.0, closed_stands new now _ new_booted none done.1, λ u. u, still_within images now m within (stands_still k images m s)))
+    (done.0, closed_stands new now _ new_booted none done.1, still_within images now m within (stands_still k images m s)))
 
 -- ---- reboot
 
@@ -137,7 +139,7 @@ sound_of_open entries last r log now c is o sound =
 abbrev Opens : Machine → ℕ → Open → (Areas → Type 0) → Type 0
 Opens m number r now = IsWhole m (Reboot 0) (says.Up 0 ∷ says.View 0 r.shown ∷ []) × Resting number r now (moved m (Reboot 0) (says.Up 0 ∷ says.View 0 r.shown ∷ []))
 
-opens_at : (last number : ℕ) (images now : Areas → Type 0) (m : Machine) (r : Open) (log : Log) (c : Areas) → last ≤ number → now c → Follows (KeepsOrBegins 0) images now → IsOpen r log now → r.stable.0 ≡ stable_in log.records → r.begins ≡ 0 → Closed last images m → Opens m number r now
+opens_at : (last number : ℕ) (images now : Areas → Type 0) (m : Machine) (r : Open) (log : Log) (c : Areas) → last ≤ number → now c → Follows (KeepsOrBegins 0) images now → IsOpen r log now → r.stable.0 ≡ stable_in log.records → r.front ≡ nothing no_epoch → Closed last images m → Opens m number r now
 opens_at last number images now m r log c rising is follows o stable idle s =
     let sound = sound_of_open s.entries last r log now c is o (sound_follows s.entries last images now follows s.sound) in
     let counted : length (shown_in log.records) ≡ r.shown = ap (λ n. length (commits_to n log.records)) (sym stable) ∙ o.agrees.shown in
@@ -152,19 +154,19 @@ opens_at last number images now m r log c rising is follows o stable idle s =
         is_open = o;
         sound = sound_later s.entries last number log rising sound;
         stable = stable;
-        few = omega (arith, idle);
+        few = let none : r.front.begins ≡ 0 = ap (λ f. f.begins) idle in omega (arith, none);
       },
     )
 
 pub reboot_opens : (k new : Kept) (images now : Areas → Type 0) (seen : Option Areas) (r : Open) (log : Log) (lines : List Observation) → k.booted ≡ true → k.replica ≡ None → k.last ≤ new.last → new.booted ≡ true → new.replica ≡ Some r →
-    IsSome seen → ForSome seen now → Follows (KeepsOrBegins 0) images now → IsOpen r log now → r.stable.0 ≡ stable_in log.records → r.role ≡ Other → r.begins ≡ 0 → lines ≡ says.Up 0 ∷ says.View 0 r.shown ∷ [] → Serves k new images now (Reboot 0) (Ok lines)
+    IsSome seen → ForSome seen now → Follows (KeepsOrBegins 0) images now → IsOpen r log now → r.stable.0 ≡ stable_in log.records → r.role ≡ Other → r.front ≡ nothing no_epoch → lines ≡ says.Up 0 ∷ says.View 0 r.shown ∷ [] → Serves k new images now (Reboot 0) (Ok lines)
 reboot_opens k new images now seen r log lines booted none rising new_booted some told shown follows o stable role idle is =
     let there = an_image seen now told shown in
     subst (λ ls. Serves k new images now (Reboot 0) (Ok ls)) (sym is)
     (λ m s.
     let before = closed_of k images m booted none s in
     let opened = opens_at k.last new.last images now m r log there.0 rising there.1 follows o stable idle before in
-    (opened.0, open_stands new now _ r new_booted some (subst (λ w. AsRole w new.last r now (moved m (Reboot 0) (says.Up 0 ∷ says.View 0 r.shown ∷ []))) (sym role) opened.1), λ u. u, closed_still k.last images now m follows before))
+    (opened.0, open_stands new now _ r new_booted some (subst (λ w. AsRole w new.last r now (moved m (Reboot 0) (says.Up 0 ∷ says.View 0 r.shown ∷ []))) (sym role) opened.1), closed_still k.last images now m follows before))
 
 -- The disk faults as the replica is opened.
 abbrev Fails : Machine → ℕ → (Areas → Type 0) → Type 0
@@ -188,11 +190,11 @@ reboot_fails k new images now lines booted none rising new_booted new_none follo
     (λ m s.
     let before = closed_of k images m booted none s in
     let failed = fails_at k.last new.last images now m rising follows before in
-    (failed.0, closed_stands new now _ new_booted new_none failed.1, λ u. u, closed_still k.last images now m follows before))
+    (failed.0, closed_stands new now _ new_booted new_none failed.1, closed_still k.last images now m follows before))
 
 -- by whether it was opened
 pub reboot_does : (k new : Kept) (images now : Areas → Type 0) (seen : Option Areas) (o : Option Open) (begun lines : List Observation) → begun ≡ [] → k.booted ≡ true → k.replica ≡ None → k.last ≤ new.last → new.booted ≡ true → new.replica ≡ o →
-    IsSome seen → ForSome seen now → Follows (KeepsOrBegins 0) images now → IfSome o (λ r. (log : Log) × IsOpen r log now × (r.stable.0 ≡ stable_in log.records)) → IfSome o (λ r. (r.role ≡ Other) × (r.begins ≡ 0) × (r.live ≡ None)) →
+    IsSome seen → ForSome seen now → Follows (KeepsOrBegins 0) images now → IfSome o (λ r. (log : Log) × IsOpen r log now × (r.stable.0 ≡ stable_in log.records)) → IfSome o (λ r. (r.role ≡ Other) × (r.front ≡ nothing no_epoch)) →
     IfSome o (λ r. lines ≡ begun ++ says.Up 0 ∷ says.View 0 r.shown ∷ []) → (◌≡◌ {A = Result (Option Open) NoMemory} (Ok o) (Ok None) → lines ≡ begun ++ says.Fault 0 ∷ []) → Serves k new images now (Reboot 0) (Ok lines)
 reboot_does k new images now seen None begun lines empty booted none rising new_booted is there shown follows opened fresh told faulted = reboot_fails k new images now lines booted none rising new_booted is follows (faulted refl ∙ ap (λ ls. ls ++ says.Fault 0 ∷ []) empty)
 reboot_does k new images now seen (Some r) begun lines empty booted none rising new_booted is there shown follows opened fresh told faulted = reboot_opens k new images now seen r opened.0 lines booted none rising new_booted is there shown follows opened.1 opened.2 fresh.0 fresh.1 (told ∙ ap (λ ls. ls ++ says.Up 0 ∷ says.View 0 r.shown ∷ []) empty)

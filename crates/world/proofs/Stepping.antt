@@ -1,85 +1,94 @@
 -- What a step of a replica keeps, and when a Barrier may follow it.
-use Rattle.std.proofs.Common.{◌≡◌, ◌∙◌, sym, ap, subst, refl, ℕ, ◌≤◌, List, ◌++◌, Bool, true, false, cond, Option, Some, None, Result, Err, Ok, arith, inl, inr, ⊎_elim}
+use Rattle.std.proofs.Common.{◌≡◌, ◌∙◌, sym, ap, subst, refl, ℕ, zero, suc, ◌+◌, ◌≤◌, List, ◌++◌, length, Bool, true, false, cond, Option, Some, None, Result, Err, Ok, arith, inl, inr, ⊎_elim}
 use Rattle.std.specs.Option.{option_map_or}
 use Rattle.std.proofs.lemmas.Bool.{false≢true}
-use Rattle.std.proofs.lemmas.Option.{none-some}
 use Rattle.rc_base.specs.Counts.{Counted}
-use Rattle.coll_model.specs.declared.op.Op.{Op}
+use Rattle.rc_base.specs.declared.ids.Epoch.{Epoch}
+use Rattle.rc_base.specs.Ids.{no_epoch, epoch_lt}
 use Rattle.disk_model.specs.Disk.{Areas}
 use Rattle.log_store.specs.declared.kept.Kept.{Kept as Log}
 use Rattle.log_store.specs.Durable.{durable, StandForOneOf}
+use Rattle.log_store.specs.Epochs.{later}
 use Rattle.log_store.specs.Growth.{after}
 use Rattle.script_text.specs.declared.event.Call.{Call}
-use Rattle.script_text.specs.declared.event.Call.TheVariants.{Begin, Make, Get, Set, Commit}
+use Rattle.script_text.specs.declared.event.Call.TheVariants.{Begin, Make, Get, GetForUpdate, Set, Add, Delete, Commit, Abort}
 use Rattle.order_machine.specs.declared.observation.Observation.{Observation}
-use Rattle.order_machine.specs.declared.observation.Observation.TheVariants as says
-use Rattle.order_machine.specs.declared.reply.Reply.{Reply}
-use Rattle.order_machine.specs.Answers.{plain}
+use Rattle.txn_front.specs.Front.{Fronted, Going, going_of, nothing, AreAlike}
+use Rattle.txn_front.proofs.Fronts.{AreAlike-trans}
+use Rattle.replica.specs.declared.role.Role.TheVariants.{Other}
 use Rattle.replica.specs.declared.step.StepEvent.{StepEvent}
 use Rattle.replica.specs.declared.step.StepEvent.TheVariants as steps
-use Rattle.replica.specs.Open.{Open}
-use Rattle.replica.specs.Step.{stepped, block, replied, operated, began, reply, served, quiet, shown_commit, is_active}
-use Rattle.world.specs.Steps.{is_due, told_by, log_once, log_twice, IsCutOff, HoldsSome}
+use Rattle.replica.specs.Open.{Open, AreSame, AgreesWith}
+use Rattle.replica.specs.Step.{MayStep, stepped, block, answered, logged_by, lengthened, is_active}
+use Rattle.world.specs.Steps.{is_due, told_by, finished, log_once, log_twice, IsCutOff, HoldsSome}
 use Rattle.world.specs.World.{IsOpen}
+use Rattle.replica.proofs.Lengthened.{steps_to, logged_few}
+use Rattle.world.proofs.Calls.{longer}
+use Rattle.world.proofs.CutOff.{due_active as due_call}
+use Rattle.world.proofs.Plain.{committed_open}
 
 -- ---- its number stays
 
-replied_id : (count : ℕ) (o : Option Reply) (r : Open) → (replied count o r).id ≡ r.id
-replied_id count None r = refl
-replied_id count (Some reply) r = by_op reply.op
-  where
-    by_op : (o : Option Op) → (option_map_or (λ op. operated count op r) o r).id ≡ r.id
-    by_op None = refl
-    by_op (Some op) = refl
+lengthened_id : (n : ℕ) (epoch : Epoch) (r : Open) → (lengthened n epoch r).id ≡ r.id
+lengthened_id zero epoch r = refl
+lengthened_id (suc n) epoch r = refl
 
-began_id : (active : Bool) (r : Open) → (cond active (began r) r).id ≡ r.id
-began_id true r = refl
-began_id false r = refl
+answered_id : (r : Open) (n : ℕ) (call : Call) → (answered n call r).id ≡ r.id
+answered_id r n Begin = lengthened_id n r.epoch r
+answered_id r n (Make t name kind) = lengthened_id n r.epoch r
+answered_id r n (Get t name key) = lengthened_id n r.epoch r
+answered_id r n (GetForUpdate t name key) = lengthened_id n r.epoch r
+answered_id r n (Set t name key value) = lengthened_id n r.epoch r
+answered_id r n (Add t name key value) = lengthened_id n r.epoch r
+answered_id r n (Delete t name key) = lengthened_id n r.epoch r
+answered_id r n (Commit t) = by (going_of r.front t)
+  where
+    by : (o : Option Going) → (option_map_or (λ g. committed_open n t g r) o r).id ≡ r.id
+    by None = refl
+    by (Some g) = lengthened_id n r.epoch r
+answered_id r n (Abort t) = lengthened_id n r.epoch r
+
+either_id : (b : Bool) (x y r : Open) → x.id ≡ r.id → y.id ≡ r.id → (cond b x y).id ≡ r.id
+either_id true x y r p q = p
+either_id false x y r p q = q
 
 pub stepped_id : (r : Open) (event : StepEvent) → (stepped r event).id ≡ r.id
-stepped_id r (steps.Client Begin) = began_id (is_active r.role) r
-stepped_id r (steps.Client (Make t name kind)) = replied_id _ (reply r (Make t name kind)) r
-stepped_id r (steps.Client (Get t name key)) = replied_id _ (reply r (Get t name key)) r
-stepped_id r (steps.Client (Set t name key value)) = replied_id _ (reply r (Set t name key value)) r
-stepped_id r (steps.Client (Commit t)) = replied_id _ (reply r (Commit t)) r
+stepped_id r (steps.Client call) = either_id (is_active r.role) (answered (length (logged_by r call)) call r) r r (answered_id r (length (logged_by r call)) call) refl
+stepped_id r (steps.Survey epoch) = either_id (epoch_lt epoch r.fence) r (record r { fence = later r.fence epoch; role = Other; front = nothing no_epoch }) r refl refl
 stepped_id r (steps.Start epoch) = refl
 stepped_id r steps.Barrier = refl
 
 -- ---- a Barrier follows a step of a primary that is active then
 
--- only an active primary has no answer
-unanswered_where : (active : Bool) (o : Option Reply) (told : Reply) → cond active o (Some told) ≡ None → active ≡ true
-unanswered_where true o told e = refl
-unanswered_where false o told e = absurd (none-some told (sym e))
-
-unanswered_active : (r : Open) (call : Call) → reply r call ≡ None → is_active r.role ≡ true
-unanswered_active r call e = unanswered_where (is_active r.role) (served r call) (plain (says.NotActive r.id)) e
-
-due_reply : (r : Open) (call : Call) (count : ℕ) (o : Option Reply) → reply r call ≡ o → (option_map_or (λ told. quiet r (Some told.answer)) o (shown_commit r)).barrier_due ≡ true → is_active (replied count o r).role ≡ true
-due_reply r call count None e due = unanswered_active r call e
-due_reply r call count (Some told) e due = absurd (false≢true due)
-
-due_begin : (r : Open) (active : Bool) (told : Reply) → (option_map_or (λ told. quiet r (Some told.answer)) (cond active (served r Begin) (Some told)) (shown_commit r)).barrier_due ≡ true → is_active (cond active (began r) r).role ≡ true
-due_begin r true told due = absurd (false≢true due)
-due_begin r false told due = absurd (false≢true due)
-
 pub due_active : (r : Open) (event : StepEvent) → is_due r event ≡ true → is_active (stepped r event).role ≡ true
-due_active r (steps.Client Begin) due = due_begin r (is_active r.role) (plain (says.NotActive r.id)) due
-due_active r (steps.Client (Make t name kind)) due = due_reply r (Make t name kind) _ (reply r (Make t name kind)) refl due
-due_active r (steps.Client (Get t name key)) due = due_reply r (Get t name key) _ (reply r (Get t name key)) refl due
-due_active r (steps.Client (Set t name key value)) due = due_reply r (Set t name key value) _ (reply r (Set t name key value)) refl due
-due_active r (steps.Client (Commit t)) due = due_reply r (Commit t) _ (reply r (Commit t)) refl due
+due_active r (steps.Client call) due = due_call r call due
+due_active r (steps.Survey epoch) due = absurd (false≢true due)
 due_active r (steps.Start epoch) due = refl
 due_active r steps.Barrier due = absurd (false≢true due)
 
 -- ---- the second step
 
--- what a Barrier logs isn't told by how the log is kept
-pub barrier_block : (s o : Open) → o ≡ record s { log = o.log } → block o steps.Barrier ≡ block s steps.Barrier
-barrier_block s o e = ap (λ (x : Open). block x steps.Barrier) e
+-- what a Barrier logs isn't told by how the log is kept, nor by what goes on
+pub barrier_block : (s o : Open) → AreSame o (record s { log = o.log }) → block o steps.Barrier ≡ block s steps.Barrier
+barrier_block s o e = ap (λ (x : Open). block x steps.Barrier) e.same
+
+-- the replica behind both steps
+pub same_twice : (r o p : Open) (event : StepEvent) → AreSame o (record (stepped r event) { log = o.log }) → AreSame p (record (stepped o steps.Barrier) { log = p.log }) → AreSame p (record (stepped (stepped r event) steps.Barrier) { log = p.log })
+same_twice r o p event first second = record {
+  same = second.same ∙ ap (λ (x : Open). record (stepped x steps.Barrier) { log = p.log; front = p.front }) first.same;
+  front = AreAlike-trans p.front o.front (stepped r event).front second.front first.front;
+}
+
+-- behind one step where no Barrier is due, and behind both where one is
+pub finished_once : (r o : Open) (event : StepEvent) → is_due r event ≡ false → AreSame o (record (stepped r event) { log = o.log }) → AreSame o (record (finished r event) { log = o.log })
+finished_once r o event due a = subst (λ (x : Open). AreSame o (record x { log = o.log })) (sym (ap (λ b. cond b (stepped (stepped r event) steps.Barrier) (stepped r event)) due)) a
+
+pub finished_twice : (r o p : Open) (event : StepEvent) → is_due r event ≡ true → AreSame o (record (stepped r event) { log = o.log }) → AreSame p (record (stepped o steps.Barrier) { log = p.log }) → AreSame p (record (finished r event) { log = p.log })
+finished_twice r o p event due first second =
+    subst (λ (x : Open). AreSame p (record x { log = p.log })) (sym (ap (λ b. cond b (stepped (stepped r event) steps.Barrier) (stepped r event)) due)) (same_twice r o p event first second)
 
 -- The disk failed in the second step.
-pub cut_second : (r o : Open) (event : StepEvent) (log : Log) (old once new : List Observation) (images : Areas → Type 0) → is_due r event ≡ true → o ≡ record (stepped r event) { log = o.log } → once ≡ old ++ told_by r event → new ≡ once → StandForOneOf (log_once r event log) (log_once o steps.Barrier (log_once r event log)) images → IsCutOff r event log old new images
+pub cut_second : (r o : Open) (event : StepEvent) (log : Log) (old once new : List Observation) (images : Areas → Type 0) → is_due r event ≡ true → AreSame o (record (stepped r event) { log = o.log }) → once ≡ old ++ told_by r event → new ≡ once → StandForOneOf (log_once r event log) (log_once o steps.Barrier (log_once r event log)) images → IsCutOff r event log old new images
 cut_second r o event log old once new images due kept told untold stands =
     inr (due, untold ∙ told, subst (λ bs. StandForOneOf (log_once r event log) (after (log_once r event log) bs) images) (barrier_block (stepped r event) o kept) stands)
 
@@ -92,8 +101,23 @@ pub handed_on : {T U E : Type 0} (r : Result T E) (e d : E) → (y : E) × (r �
 handed_on r e d y is = let same = sym y.1 ∙ is in let these : y.0 ≡ d = cc in ap Err (sym y.2 ∙ these)
 
 -- where both steps were taken, or the second failed
-pub holds_second : (r o : Open) (event : StepEvent) (log : Log) (images : Areas → Type 0) → is_due r event ≡ true → o ≡ record (stepped r event) { log = o.log } → StandForOneOf (log_once r event log) (log_once o steps.Barrier (log_once r event log)) images → HoldsSome r event log images
+pub holds_second : (r o : Open) (event : StepEvent) (log : Log) (images : Areas → Type 0) → is_due r event ≡ true → AreSame o (record (stepped r event) { log = o.log }) → StandForOneOf (log_once r event log) (log_once o steps.Barrier (log_once r event log)) images → HoldsSome r event log images
 holds_second r o event log images due kept stands = λ c is. ⊎_elim (λ once. inr (inl once)) (λ twice. inr (inr (due, subst (λ bs. durable c ≡ Ok (after (log_once r event log) bs)) (barrier_block (stepped r event) o kept) twice))) (stands c is)
 
-pub stands_second : (r o p : Open) (event : StepEvent) (log : Log) (images : Areas → Type 0) → o ≡ record (stepped r event) { log = o.log } → IsOpen p (log_once o steps.Barrier (log_once r event log)) images → IsOpen p (log_twice r event log) images
+pub stands_second : (r o p : Open) (event : StepEvent) (log : Log) (images : Areas → Type 0) → AreSame o (record (stepped r event) { log = o.log }) → IsOpen p (log_once o steps.Barrier (log_once r event log)) images → IsOpen p (log_twice r event log) images
 stands_second r o p event log images kept stands = subst (λ bs. IsOpen p (after (log_once r event log) bs) images) (barrier_block (stepped r event) o kept) stands
+
+-- ---- what a step adds
+
+-- at most two records
+pub last_few : (r : Open) (event : StepEvent) (log : Log) → AgreesWith r log → MayStep r event → (stepped r event).last.0 ≤ r.last.0 + 2
+last_few r event log agrees may =
+    let now = (steps_to r log event agrees may).agrees.last in
+    let more = longer r event log in
+    let few = logged_few r event in
+    let was = agrees.last in
+    omega (arith, now, more, few, was)
+
+-- at most one transaction begins
+pub alike_begins : (a b : Fronted) → AreAlike a b → a.begins ≡ b.begins
+alike_begins a b alike = ap (λ (f : Fronted). f.begins) alike.same

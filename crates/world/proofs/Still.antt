@@ -21,7 +21,7 @@ of_one entries images log stands begins c is = (log, stands c is, begins)
 pub still_serving : (last : ℕ) (r : Open) (images : Areas → Type 0) (m : Machine) → Serving last r images m → StillHolds m images
 still_serving last r images m s =
     subst (λ n. StillHolds n images) (sym s.runs.is)
-    (begins_still s.runs.entries s.runs.acknowledged (serving (length s.runs.entries) r.begins) s.runs.txns true images refl (of_one s.runs.entries images s.log s.is_open.stands ([], append-nil (map as_commit s.runs.entries) ∙ s.commits)))
+    (begins_still s.runs.entries s.runs.acknowledged (serving (length s.runs.entries) r.front.begins s.runs.grants) s.runs.txns true images refl (of_one s.runs.entries images s.log s.is_open.stands ([], append-nil (map as_commit s.runs.entries) ∙ s.commits)))
 
 pub still_resting : (last : ℕ) (r : Open) (images : Areas → Type 0) (m : Machine) → Resting last r images m → StillHolds m images
 still_resting last r images m s =

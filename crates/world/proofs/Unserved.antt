@@ -1,22 +1,23 @@
 -- A client's call at a replica that is closed, or that has no role.
-use Rattle.std.proofs.Common.{◌≡◌, ℕ, List, [], ◌∷◌, ◌++◌, Bool, Option, Some, None, refl, sym, subst, ◌∙◌, false}
+use Rattle.std.proofs.Common.{◌≡◌, ℕ, List, [], ◌∷◌, ◌++◌, Bool, Option, Some, None, refl, sym, subst, false}
 use Rattle.std.specs.Option.{option_map_or}
 use Rattle.std.specs.Map.{lookup}
-use Rattle.std.proofs.lemmas.Bool.{false≢true}
+use Rattle.std.proofs.lemmas.Bool.{cond-false}
 use Rattle.rc_base.specs.declared.ids.TxnId.{TxnId}
 use Rattle.rc_base.specs.Ids.{is_txn}
 use Rattle.script_text.specs.declared.event.Event.TheVariants.{Client}
 use Rattle.script_text.specs.declared.event.Call.{Call}
-use Rattle.script_text.specs.declared.event.Call.TheVariants.{Begin, Make, Get, Set, Commit}
+use Rattle.script_text.specs.declared.event.Call.TheVariants.{Begin, Make, Get, GetForUpdate, Set, Add, Delete, Commit, Abort}
 use Rattle.order_machine.specs.declared.observation.Observation.{Observation}
 use Rattle.order_machine.specs.declared.observation.Observation.TheVariants as says
 use Rattle.order_machine.specs.Order.{Entry}
-use Rattle.order_machine.specs.Machine.{Machine, Replica, Txn, Noted, is_active}
+use Rattle.order_machine.specs.Machine.{Machine, Replica, Txn, Noted, is_active, live_txn}
 use Rattle.order_machine.specs.Answers.{noted, txn_named}
-use Rattle.order_machine.specs.Rows.{HoldsBehind, IsUnbuilt, asking}
+use Rattle.order_machine.specs.Rows.{HoldsBehind, asking, going_at}
 use Rattle.order_machine.specs.Legal.{IsWhole, moved}
 use Rattle.world.specs.Standing.{resting, shut, standing}
 use Rattle.world.proofs.Answer.{answer_serves}
+use Rattle.world.proofs.Ended.{ended_asking}
 use Rattle.world.proofs.WithoutRole.{holds_without_role}
 
 -- the machine behind it differs at most in the transactions
@@ -40,37 +41,38 @@ holds_still : (entries : List Entry) (acknowledged : List TxnId) (first : Replic
 holds_still entries acknowledged first was_active m none still =
     subst HoldsBehind (sym still.1) (holds_without_role entries acknowledged first still.0 was_active none)
 
-asks_nothing_inactive : (m : Machine) (r : ℕ) (call : Call) → is_active m r ≡ false → asking m r call ≡ m
-asks_nothing_inactive m r Begin off = refl
-asks_nothing_inactive m r (Make t name kind) off = refl
-asks_nothing_inactive m r (Get t name key) off = refl
-asks_nothing_inactive m r (Set t name key value) off = refl
-asks_nothing_inactive m r (Commit t) off = rw off refl
+-- nothing goes on at a replica that isn't active, and so the asking changes nothing
+pub asks_nothing_inactive : (m : Machine) (call : Call) → is_active m 0 ≡ false → asking m 0 call ≡ m
+asks_nothing_inactive m call off = by call
+  where
+    gone : (t : TxnId) → going_at m 0 t ≡ None
+    gone t = cond-false (is_active m 0) (live_txn m 0 t) None off
 
--- nothing is unbuilt at a replica that isn't an active primary
-pub built_inactive : (m : Machine) (r : ℕ) (call : Call) → is_active m r ≡ false → IsUnbuilt m (Client r call) → ⊥
-built_inactive m r Begin off unbuilt = false≢true (sym off ∙ unbuilt.1)
-built_inactive m r (Make t name kind) off unbuilt = unbuilt
-built_inactive m r (Get t name key) off unbuilt = unbuilt
-built_inactive m r (Set t name key value) off unbuilt = unbuilt
-built_inactive m r (Commit t) off unbuilt = unbuilt
+    by : (c : Call) → asking m 0 c ≡ m
+    by Begin = refl
+    by (Make t name kind) = ended_asking m (Make t name kind) t refl (gone t)
+    by (Get t name key) = ended_asking m (Get t name key) t refl (gone t)
+    by (GetForUpdate t name key) = ended_asking m (GetForUpdate t name key) t refl (gone t)
+    by (Set t name key value) = ended_asking m (Set t name key value) t refl (gone t)
+    by (Add t name key value) = ended_asking m (Add t name key value) t refl (gone t)
+    by (Delete t name key) = ended_asking m (Delete t name key) t refl (gone t)
+    by (Commit t) = ended_asking m (Commit t) t refl (gone t)
+    by (Abort t) = ended_asking m (Abort t) t refl (gone t)
 
 pub down_serves : (entries : List Entry) (acknowledged : List TxnId) (last : ℕ) (txns : List (TxnId × Txn)) (was_active : Bool) (call : Call) →
     IsWhole (standing entries acknowledged (shut last) txns was_active) (Client 0 call) (says.Down 0 ∷ [])
     × ((others : List (TxnId × Txn)) × (moved (standing entries acknowledged (shut last) txns was_active) (Client 0 call) (says.Down 0 ∷ []) ≡ standing entries acknowledged (shut last) others was_active))
-    × (IsUnbuilt (standing entries acknowledged (shut last) txns was_active) (Client 0 call) → ⊥)
 down_serves entries acknowledged last txns was_active call =
     let m : Machine = standing entries acknowledged (shut last) txns was_active in
     let still = answered_stands entries acknowledged (shut last) txns was_active call (txn_named call) (says.Down 0) in
-    let done = answer_serves m 0 call (says.Down 0) None (IsStill entries acknowledged (shut last) was_active) refl (asks_nothing_inactive m 0 call refl) refl refl (holds_still entries acknowledged (shut last) was_active _ refl still) still in
-    (done.0, done.1, built_inactive m 0 call refl)
+    let done = answer_serves m m 0 call (says.Down 0) None (IsStill entries acknowledged (shut last) was_active) refl (asks_nothing_inactive m call refl) refl refl (holds_still entries acknowledged (shut last) was_active _ refl still) still in
+    done
 
 pub not_active_serves : (entries : List Entry) (acknowledged : List TxnId) (shown : ℕ) (txns : List (TxnId × Txn)) (was_active : Bool) (call : Call) →
     IsWhole (standing entries acknowledged (resting shown) txns was_active) (Client 0 call) (says.NotActive 0 ∷ [])
     × ((others : List (TxnId × Txn)) × (moved (standing entries acknowledged (resting shown) txns was_active) (Client 0 call) (says.NotActive 0 ∷ []) ≡ standing entries acknowledged (resting shown) others was_active))
-    × (IsUnbuilt (standing entries acknowledged (resting shown) txns was_active) (Client 0 call) → ⊥)
 not_active_serves entries acknowledged shown txns was_active call =
     let m : Machine = standing entries acknowledged (resting shown) txns was_active in
     let still = answered_stands entries acknowledged (resting shown) txns was_active call (txn_named call) (says.NotActive 0) in
-    let done = answer_serves m 0 call (says.NotActive 0) None (IsStill entries acknowledged (resting shown) was_active) refl (asks_nothing_inactive m 0 call refl) refl refl (holds_still entries acknowledged (resting shown) was_active _ refl still) still in
-    (done.0, done.1, built_inactive m 0 call refl)
+    let done = answer_serves m m 0 call (says.NotActive 0) None (IsStill entries acknowledged (resting shown) was_active) refl (asks_nothing_inactive m call refl) refl refl (holds_still entries acknowledged (resting shown) was_active _ refl still) still in
+    done

@@ -2,7 +2,7 @@
 use Rattle.std.specs.Prelude.{◌≡◌, ℕ, zero, suc, ◌+◌, ◌-◌, ◌^◌, ◌≤◌, min, Bool, true, false, ◌==◌, List, [], ◌∷◌, Result, Ok, Err, if◌then◌else◌}
 use Rattle.disk_model.specs.Disk.{Areas, Marks, after_arm, after_stop}
 use Rattle.script_text.specs.declared.event.Event.{Event}
-use Rattle.script_text.specs.declared.event.Event.TheVariants.{Boot, Client, Arm, Crash, Reboot, Inspect}
+use Rattle.script_text.specs.declared.event.Event.TheVariants.{Boot, Client, Arm, Crash, Reboot, Inspect, Survey, Appoint, Activate}
 use Rattle.order_machine.specs.declared.observation.Observation.{Observation}
 use Rattle.world.specs.declared.error.WorldError.{WorldError}
 use Rattle.order_machine.specs.declared.observation.Observation.TheVariants as says
@@ -64,6 +64,9 @@ marked (Arm q calls) r marks = if q == r then after_arm calls marks else marks
 marked (Crash q pick) r marks = if q == r then after_stop pick marks else marks
 marked (Reboot q) r marks = marks
 marked (Inspect q) r marks = marks
+marked (Survey q e) r marks = marks
+marked (Appoint e p members) r marks = marks
+marked (Activate e) r marks = marks
 
 -- the marks behind an event with these lines: arming and stopping count where they were answered `ok`
 abbrev pub marked_by : Event → List Observation → ℕ → Marks → Marks

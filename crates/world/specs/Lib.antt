@@ -1,6 +1,7 @@
+pub mod Standing
+pub mod Running
 pub mod Disks
 pub mod Fleet
 pub mod Kept
-pub mod Standing
 pub mod Steps
 pub mod World

@@ -1,13 +1,11 @@
 -- The steps of an open replica in an event, and the lines that they print.
-use Rattle.std.specs.Prelude.{◌≡◌, ◌≢◌, ◌⊎◌, ℕ, nat_lt, Bool, true, false, not, ◌&&◌, List, [], ◌∷◌, ◌++◌, map, Ok, is_none, if◌then◌else◌}
+use Rattle.std.specs.Prelude.{◌≡◌, ◌≢◌, ◌⊎◌, ℕ, nat_lt, Bool, true, false, not, ◌&&◌, List, [], ◌∷◌, ◌++◌, map, Ok, if◌then◌else◌}
 use Rattle.std.specs.List.{cons_option}
 use Rattle.disk_model.specs.Disk.{Areas, Each}
 use Rattle.txn_table.specs.declared.committed.Committed.{Committed}
 use Rattle.log_store.specs.declared.kept.Kept.{Kept as Log}
 use Rattle.log_store.specs.Durable.{durable, StandForOneOf}
 use Rattle.log_store.specs.Growth.{after}
-use Rattle.script_text.specs.declared.event.Call.{Call}
-use Rattle.script_text.specs.declared.event.Call.TheVariants as calls
 use Rattle.order_machine.specs.declared.observation.Observation.{Observation}
 use Rattle.order_machine.specs.declared.observation.Observation.TheVariants as says
 use Rattle.replica.specs.declared.step.Outcome.{Outcome}
@@ -15,15 +13,6 @@ use Rattle.replica.specs.declared.step.StepEvent.{StepEvent}
 use Rattle.replica.specs.declared.step.StepEvent.TheVariants as steps
 use Rattle.replica.specs.Open.{Open}
 use Rattle.replica.specs.Step.{block, outcome, stepped, is_active}
-
--- ---- a begin that waits for locks
-
-abbrev pub waits : Open → Call → Bool
-waits r calls.Begin = is_active r.role && not (is_none r.live)
-waits r (calls.Make t name kind) = false
-waits r (calls.Get t name key) = false
-waits r (calls.Set t name key value) = false
-waits r (calls.Commit t) = false
 
 -- ---- lines
 

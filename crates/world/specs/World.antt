@@ -1,10 +1,6 @@
 -- When a world and the disk of its replica stand for a state of the machine, and what it promises of an event.
-use Rattle.std.specs.Prelude.{◌≡◌, ℕ, ◌*◌, ◌≤◌, Bool, true, false, List, [], ◌∷◌, ◌++◌, length, map, flat_map, Option, Some, None, Result, Ok, Err, MatchBool}
-use Rattle.std.specs.List.{list_any}
-use Rattle.std.specs.Map.{lookup}
+use Rattle.std.specs.Prelude.{◌≡◌, ℕ, ◌*◌, ◌≤◌, ◌==◌, Bool, true, false, List, [], ◌∷◌, ◌++◌, length, map, Option, Some, None, Result, Ok, Err, MatchBool}
 use Rattle.rc_base.specs.declared.ids.TxnId.{TxnId}
-use Rattle.rc_base.specs.Ids.{is_txn}
-use Rattle.coll_model.specs.Effect.{State, folded}
 use Rattle.disk_model.specs.Disk.{Areas, Each}
 use Rattle.txn_table.specs.declared.committed.Committed.{Committed}
 use Rattle.log_store.specs.declared.kept.Kept.{Kept as Log}
@@ -13,12 +9,11 @@ use Rattle.log_store.specs.Fold.{no_log}
 use Rattle.log_store.specs.Log.{commits_in}
 use Rattle.log_store.specs.Store.{IsOpenOn}
 use Rattle.script_text.specs.declared.event.Event.{Event}
-use Rattle.script_text.specs.declared.event.Event.TheVariants.{Boot, Client, Arm, Crash, Reboot, Inspect}
+use Rattle.script_text.specs.declared.event.Event.TheVariants.{Boot, Client, Arm, Crash, Reboot, Inspect, Survey, Appoint, Activate}
 use Rattle.order_machine.specs.declared.observation.Observation.{Observation}
-use Rattle.order_machine.specs.Order.{Entry, holds}
-use Rattle.order_machine.specs.Machine.{Machine, Txn, empty_machine, ops_of, is_booted}
-use Rattle.order_machine.specs.Answers.{Replays}
-use Rattle.order_machine.specs.Rows.{IsUnbuilt, first_epoch}
+use Rattle.order_machine.specs.Order.{Entry}
+use Rattle.order_machine.specs.Machine.{Machine, Txn, empty_machine, is_booted}
+use Rattle.order_machine.specs.Rows.{first_epoch}
 use Rattle.order_machine.specs.Legal.{IsWhole, moved}
 use Rattle.replica.specs.declared.role.Role.{Role}
 use Rattle.replica.specs.declared.role.Role.TheVariants.{Other, Primary}
@@ -26,48 +21,11 @@ use Rattle.replica.specs.Open.{Open, AgreesWith, shown_in, stable_in}
 use Rattle.replica.specs.Step.{CallFits}
 use Rattle.world.specs.declared.error.WorldError.{WorldError}
 use Rattle.world.specs.declared.error.WorldError.TheVariants as errors
+use Rattle.txn_front.specs.Front.{Going, going_of}
 use Rattle.world.specs.Disks.{as_commit, DiskHolds}
-use Rattle.world.specs.Kept.{Kept, Going, live_of, goes_on, ops_going}
-use Rattle.world.specs.Standing.{standing, serving, resting, shut}
-
--- ---- replica 0 is the active primary of the first epoch, and shows all of the order
-
-abbrev pub running : List Entry → List TxnId → List (TxnId × Txn) → ℕ → Machine
-running entries acknowledged txns begins = standing entries acknowledged (serving (length entries) begins) txns true
-
--- the state behind the entries
-abbrev pub state_of : List Entry → State
-state_of entries = folded [] (flat_map (λ e. e.ops) entries)
-
--- A transaction that was begun: it was begun here, in this epoch. Once its commit was asked it is acknowledged. One
--- that goes on isn't in the order; it has logged these operations, and answers that a replay behind the order gives.
-pub record IsKept (begins : ℕ) (live : Option Going) (entries : List Entry) (acknowledged : List TxnId) (t : TxnId) (x : Txn) : Type 0 where
-  pub home : x.home ≡ 0
-  pub epoch : t.epoch ≡ first_epoch
-  pub begun : t.n ≤ begins
-  pub on : x.live ≡ goes_on live t
-  pub asked : x.asked ≡ true → list_any (is_txn t) acknowledged ≡ true
-  pub not_held : x.live ≡ true → holds entries t ≡ false
-  pub not_acknowledged : x.live ≡ true → list_any (is_txn t) acknowledged ≡ false
-  pub logged : x.live ≡ true → ops_of x ≡ ops_going live
-  pub replays : x.live ≡ true → Replays (state_of entries) x.calls
-
--- the machine of a booted world, with this many begins and entries, these contents, and this transaction that goes on
-pub record Runs (begins shown : ℕ) (contents : State) (live : Option Going) (m : Machine) : Type 0 where
-  pub entries : List Entry
-  pub acknowledged : List TxnId
-  pub txns : List (TxnId × Txn)
-  pub is : m ≡ running entries acknowledged txns begins
-  pub all_shown : shown ≡ length entries
-  pub sees : contents ≡ folded (state_of entries) (ops_going live)
-  pub each : (t : TxnId) (x : Txn) → lookup (is_txn t) txns ≡ Some x → IsKept begins live entries acknowledged t x
-  pub live_known : (going : Going) → live ≡ Some going → (x : Txn) × (lookup (is_txn going.txn) txns ≡ Some x)
-  pub held : (t : TxnId) → list_any (is_txn t) acknowledged ≡ true → holds entries t ≡ true
-  pub held_begun : (t : TxnId) → holds entries t ≡ true → t.n ≤ begins
-
--- the same, with these entries
-abbrev pub RunsWith : List Entry → ℕ → ℕ → State → Option Going → Machine → Type 0
-RunsWith entries begins shown contents live m = (runs : Runs begins shown contents live m) × (runs.entries ≡ entries)
+use Rattle.world.specs.Kept.{Kept}
+use Rattle.world.specs.Running.{Runs}
+use Rattle.world.specs.Standing.{standing, resting, shut}
 
 -- ---- replica 0 and its disk
 
@@ -88,15 +46,17 @@ pub record IsSound (entries : List Entry) (last : ℕ) (log : Log) : Type 0 wher
   pub shows : shown_in log.records ++ hidden ≡ map as_commit entries
   pub short : length log.records ≤ 3 * last
 
--- it serves as the primary: the order is all that its log commits
+-- It serves as the primary: the order is all that its log commits. A transaction that goes on has records once it has logged
+-- an operation.
 pub record Serving (last : ℕ) (r : Open) (images : Areas → Type 0) (m : Machine) : Type 0 where
-  pub runs : Runs r.begins r.shown r.seen (live_of r.live) m
+  pub runs : Runs r.front r.shown r.contents m
   pub log : Log
   pub is_open : IsOpen r log images
   pub epoch : r.epoch ≡ first_epoch
   pub commits : map as_commit runs.entries ≡ commits_in log.records
   pub short : length log.records ≤ 3 * last
-  pub few : r.begins ≤ last
+  pub few : r.front.begins ≤ last
+  pub recorded : (t : TxnId) (going : Going) → going_of r.front t ≡ Some going → (going.last.0 == 0) ≡ (length going.ops == 0)
 
 -- Replica 0 was opened again and shows so many, and these are the entries of the order.
 pub record RestsWith (entries : List Entry) (shown : ℕ) (m : Machine) : Type 0 where
@@ -113,7 +73,7 @@ pub record Resting (last : ℕ) (r : Open) (images : Areas → Type 0) (m : Mach
   pub is_open : IsOpen r log images
   pub sound : IsSound entries last log
   pub stable : r.stable.0 ≡ stable_in log.records
-  pub few : r.begins ≤ last
+  pub few : r.front.begins ≤ last
 
 -- Replica 0 is closed, and these are the entries of the order.
 pub record IsShutWith (entries : List Entry) (m : Machine) : Type 0 where
@@ -158,16 +118,17 @@ IsHere (Arm r calls) = (r ≡ 0) × (1 ≤ calls)
 IsHere (Crash r pick) = r ≡ 0
 IsHere (Reboot r) = r ≡ 0
 IsHere (Inspect r) = r ≡ 0
+IsHere (Survey r e) = ⊥
+IsHere (Appoint e p members) = ⊥
+IsHere (Activate e) = ⊥
 
 -- once it was booted, the disk holds what was acknowledged
 abbrev pub StillHolds : Machine → (Areas → Type 0) → Type 0
 StillHolds m images = is_booted m ≡ true → DiskHolds m 0 images
 
 -- At each state that world and disk stand for, the lines are whole, and world and disk stand for the state behind them.
--- The disk still holds what was acknowledged before, also without all lines. An event that is not built at a state is refused so, and
--- no other; no limit is reached.
+-- The disk still holds what was acknowledged before, also without all lines. No limit is reached so far.
 abbrev pub Serves : Kept → Kept → (Areas → Type 0) → (Areas → Type 0) → Event → Result (List Observation) WorldError → Type 0
-Serves old new before now event (Ok lines) = (m : Machine) → StandsFor old before m → IsWhole m event lines × StandsFor new now (moved m event lines) × (IsUnbuilt m event → ⊥) × StillHolds m now
+Serves old new before now event (Ok lines) = (m : Machine) → StandsFor old before m → IsWhole m event lines × StandsFor new now (moved m event lines) × StillHolds m now
 Serves old new before now event (Err errors.NoMemory) = (m : Machine) → StandsFor old before m → StillHolds m now
 Serves old new before now event (Err (errors.Limit which lines)) = ⊥
-Serves old new before now event (Err (errors.Unbuilt lines)) = (lines ≡ []) × ((m : Machine) → StandsFor old before m → IsUnbuilt m event × StillHolds m now)

@@ -18,11 +18,6 @@ pub enum WorldError {
         which: LimitName,
         lines: Observations,
     },
-    /// The event waits for a later version at this state of the world, behind these lines of it.
-    #[error("not built yet")]
-    Unbuilt {
-        lines: Observations,
-    },
 }
 
 impl From<NoMemory> for WorldError {

@@ -5,6 +5,8 @@ ghost use Rattle.log_store.specs.declared.kept.Kept.{Kept as Log};
 ghost use Rattle.log_store.specs.Durable.{durable};
 ghost use Rattle.log_store.specs.Store.{KeepsOrBegins};
 ghost use Rattle.order_machine.specs.declared.observation.Observation.TheVariants as says;
+ghost use Rattle.rc_base.specs.Ids.{no_epoch};
+ghost use Rattle.txn_front.specs.Front.{nothing};
 ghost use Rattle.replica.specs.declared.role.Role.TheVariants.{Other};
 ghost use Rattle.replica.specs.Open.{stable_in};
 ghost use Rattle.world.specs.World.{IsOpen};
@@ -26,7 +28,7 @@ pub(crate) fn open_replica<M: CrashDisk>(
     requires first { id ≡ 0 }
     requires readable { Each (M.images disk.old) (λ c. (log : Log) × (durable c ≡ Ok log)) }
     ensures opened { IfOk result (λ o. IfSome o (λ r. (log : Log) × IsOpen r log (M.images disk.new) × (r.stable.0 ≡ stable_in log.records))) }
-    ensures fresh { IfOk result (λ o. IfSome o (λ r. (r.role ≡ Other) × (r.begins ≡ 0) × (r.live ≡ None))) }
+    ensures fresh { IfOk result (λ o. IfSome o (λ r. (r.role ≡ Other) × (r.front ≡ nothing no_epoch))) }
     ensures told { IfOk result (λ o. IfSome o (λ r. lines.new ≡ lines.old ++ says.Up 0 ∷ says.View 0 r.shown ∷ [])) }
     ensures faulted { result ≡ Ok None → lines.new ≡ lines.old ++ says.Fault 0 ∷ [] }
     ensures stop { Follows (KeepsOrBegins 0) (M.images disk.old) (M.images disk.new) }

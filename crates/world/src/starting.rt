@@ -8,6 +8,7 @@ ghost use Rattle.order_machine.specs.Machine.{empty_machine};
 ghost use Rattle.order_machine.specs.declared.observation.Observation.TheVariants as says;
 ghost use Rattle.replica.specs.declared.error.StepError.TheVariants as errors;
 ghost use Rattle.replica.specs.declared.step.StepEvent.TheVariants as steps;
+ghost use Rattle.replica.specs.Open.{AreSame};
 ghost use Rattle.replica.specs.Step.{MayStep};
 ghost use Rattle.order_machine.specs.Rows.{first_epoch};
 ghost use Rattle.script_text.specs.declared.event.Event.TheVariants.{Boot};
@@ -68,8 +69,8 @@ fn start<M: CrashDisk>(
     requires stands { (log : Log) × IsOpen opened.old log (M.images disk.old) }
     requires may { MayStep opened.old (steps.Start first_epoch) }
     requires room { opened.old.last.0 + 4 < 2 ^ 48 }
-    requires counted { opened.old.begins + 1 < 2 ^ 64 }
-    ensures kept { OnOk result (opened.new ≡ record (finished opened.old (steps.Start first_epoch)) { log = opened.new.log }) }
+    requires counted { opened.old.front.begins + 1 < 2 ^ 64 }
+    ensures kept { OnOk result (AreSame opened.new (record (finished opened.old (steps.Start first_epoch)) { log = opened.new.log })) }
     ensures stands { OnOk result ((log : Log) → IsOpen opened.old log (M.images disk.old) → IsOpen opened.new (log_behind opened.old (steps.Start first_epoch) log) (M.images disk.new)) }
     ensures told { OnOk result (lines.new ≡ (lines.old ++ told_by opened.old (steps.Start first_epoch)) ++ says.Done ∷ []) }
     ensures cut { IsErrOf result errors.Disk → (lines.new ≡ lines.old) ⊎ (lines.new ≡ (lines.old ++ told_by opened.old (steps.Start first_epoch)) ++ says.Done ∷ []) }

@@ -6,11 +6,11 @@ ghost use Rattle.log_store.specs.Durable.{StandForOneOf};
 ghost use Rattle.order_machine.specs.declared.observation.Observation.{Observation};
 ghost use Rattle.replica.specs.declared.error.StepError.TheVariants as errors;
 ghost use Rattle.replica.specs.declared.step.StepEvent.TheVariants as steps;
-ghost use Rattle.replica.specs.Open.{Open};
+ghost use Rattle.replica.specs.Open.{Open, AreSame};
 ghost use Rattle.replica.specs.Step as step_spec;
 ghost use Rattle.replica.specs.Step.{MayStep, block, stepped};
 ghost use Rattle.world.specs.Steps as spec;
-ghost use Rattle.world.specs.Steps.{told, told_rise, told_by, order_line, is_due, finished, log_once, log_behind, IsCutOff, HoldsSome, waits};
+ghost use Rattle.world.specs.Steps.{told, told_rise, told_by, order_line, is_due, finished, log_once, log_behind, IsCutOff, HoldsSome};
 ghost use Rattle.world.specs.World.{IsOpen};
 
 use disk_model::CrashDisk;
@@ -24,16 +24,6 @@ pub(crate) fn is_active(role: Role) -> bool
     ensures { result ≡ step_spec.is_active role }
 {
     matches!(role, Role::Primary { active: true, .. })
-}
-
-// Whether the call is a begin at a primary beside a transaction that goes on.
-pub(crate) fn waits_for_locks(opened: &Replica, call: &Call) -> bool
-    ensures { result ≡ waits opened.now call.now }
-{
-    match call {
-        Call::Begin => is_active(opened.role()) && !opened.is_free(),
-        Call::Make(..) | Call::Get(..) | Call::Set(..) | Call::Commit(_) => false,
-    }
 }
 
 fn tell_orders(commits: Commits, lines: &mut Observations) -> Result<(), NoMemory>
@@ -113,8 +103,8 @@ pub(crate) fn take_step<M: CrashDisk>(
     requires stands { (log : Log) × IsOpen opened.old log (M.images disk.old) }
     requires may { MayStep opened.old event.now }
     requires room { opened.old.last.0 + 2 < 2 ^ 48 }
-    requires counted { opened.old.begins + 1 < 2 ^ 64 }
-    ensures kept { OnOk result (opened.new ≡ record (stepped opened.old event.now) { log = opened.new.log }) }
+    requires counted { opened.old.front.begins + 1 < 2 ^ 64 }
+    ensures kept { OnOk result (AreSame opened.new (record (stepped opened.old event.now) { log = opened.new.log })) }
     ensures stands { OnOk result ((log : Log) → IsOpen opened.old log (M.images disk.old) → IsOpen opened.new (log_once opened.old event.now log) (M.images disk.new)) }
     ensures told { OnOk result (lines.new ≡ lines.old ++ told_by opened.old event.now) }
     ensures due { IfOk result (λ due. due ≡ is_due opened.old event.now) }
@@ -144,8 +134,8 @@ pub(crate) fn take_steps<M: CrashDisk>(
     requires stands { (log : Log) × IsOpen opened.old log (M.images disk.old) }
     requires may { MayStep opened.old event.now }
     requires room { opened.old.last.0 + 4 < 2 ^ 48 }
-    requires counted { opened.old.begins + 2 < 2 ^ 64 }
-    ensures kept { OnOk result (opened.new ≡ record (finished opened.old event.now) { log = opened.new.log }) }
+    requires counted { opened.old.front.begins + 2 < 2 ^ 64 }
+    ensures kept { OnOk result (AreSame opened.new (record (finished opened.old event.now) { log = opened.new.log })) }
     ensures stands { OnOk result ((log : Log) → IsOpen opened.old log (M.images disk.old) → IsOpen opened.new (log_behind opened.old event.now log) (M.images disk.new)) }
     ensures told { OnOk result (lines.new ≡ lines.old ++ told_by opened.old event.now) }
     ensures cut { IsErrOf result errors.Disk → (log : Log) → IsOpen opened.old log (M.images disk.old) → IsCutOff opened.old event.now log lines.old lines.new (M.images disk.new) }
@@ -171,8 +161,8 @@ pub(crate) fn take_call<M: CrashDisk>(
     requires stands { (log : Log) × IsOpen opened.old log (M.images disk.old) }
     requires may { MayStep opened.old (steps.Client call.now) }
     requires room { opened.old.last.0 + 4 < 2 ^ 48 }
-    requires counted { opened.old.begins + 2 < 2 ^ 64 }
-    ensures kept { OnOk result (opened.new ≡ record (finished opened.old (steps.Client call.now)) { log = opened.new.log }) }
+    requires counted { opened.old.front.begins + 2 < 2 ^ 64 }
+    ensures kept { OnOk result (AreSame opened.new (record (finished opened.old (steps.Client call.now)) { log = opened.new.log })) }
     ensures stands { OnOk result ((log : Log) → IsOpen opened.old log (M.images disk.old) → IsOpen opened.new (log_behind opened.old (steps.Client call.now) log) (M.images disk.new)) }
     ensures told { OnOk result (lines.new ≡ lines.old ++ told_by opened.old (steps.Client call.now)) }
     ensures cut { IsErrOf result errors.Disk → (log : Log) → IsOpen opened.old log (M.images disk.old) → IsCutOff opened.old (steps.Client call.now) log lines.old lines.new (M.images disk.new) }

@@ -1,7 +1,7 @@
 ghost use Rattle.std.specs.Prelude.{◌≡◌, ℕ, ◌<◌, ◌≤◌, ◌∷◌, ◌++◌, [], IfOk, OnOk, OnErr, Err, None, false, vec_len, slice_get};
 ghost use Rattle.order_machine.specs.declared.observation.Observation.{Observation};
 ghost use Rattle.order_machine.specs.Machine.{Machine};
-ghost use Rattle.order_machine.specs.Rows.{is_actor};
+ghost use Rattle.order_machine.specs.Rows.{event_primary, is_actor};
 ghost use Rattle.replica.specs.Step.{CallFits};
 ghost use Rattle.script_text.specs.declared.event.Event.TheVariants.{Boot, Client, Arm, Crash, Reboot, Inspect};
 ghost use Rattle.world.specs.Fleet.{images_of, faults_of, marks_of, marks_after, fault_lines, RoseBy, TellsZero};
@@ -12,7 +12,7 @@ use crate::error::WorldError;
 use crate::opening::open_replica;
 use crate::rows::inspected;
 use crate::starting::boot_replica;
-use crate::steps::{take_call, waits_for_locks};
+use crate::steps::take_call;
 use disk_model::CrashDisk;
 use order_machine::{Observation, Observations};
 use rc_base::{NoMemory, ReplicaId};
@@ -63,8 +63,7 @@ impl World {
     /// was asked.
     ///
     /// # Errors
-    /// `Unbuilt` exactly where the event waits for a later version at this state; `NoMemory` for want of memory. The
-    /// world is dropped then; the disks still hold what was acknowledged.
+    /// `NoMemory` for want of memory. The world is dropped then; the disks still hold what was acknowledged.
     pub fn event<M: CrashDisk>(
         &mut self,
         fleet: &mut Vec<M>,
@@ -80,7 +79,7 @@ impl World {
         ensures still { (m : Machine) → StandsFor self.old (images_of M.images fleet.old.items 0) m → StillHolds m (images_of M.images fleet.new.items 0) }
         ensures last { OnOk result (self.new.last ≡ number) }
         ensures nine { vec_len fleet.new ≡ 9 }
-        ensures elsewhere { (r : ℕ) → is_actor event.now r ≡ false → slice_get fleet.new.items r ≡ slice_get fleet.old.items r }
+        ensures elsewhere { (m : Machine) → StandsFor self.old (images_of M.images fleet.old.items 0) m → (r : ℕ) → is_actor (event_primary m event.now) event.now r ≡ false → slice_get fleet.new.items r ≡ slice_get fleet.old.items r }
         ensures faults { (r : ℕ) → RoseBy (fault_lines r result) (faults_of M.faults fleet.old.items r) (faults_of M.faults fleet.new.items r) }
         ensures marks { (r : ℕ) → marks_of M.marks fleet.new.items r ≡ marks_after event.now result r (marks_of M.marks fleet.old.items r) }
     {
@@ -111,6 +110,7 @@ impl World {
             Event::Crash(replica, pick) => self.crash(disk, number, *replica, *pick),
             Event::Reboot(replica) => self.reboot(disk, number, *replica),
             Event::Inspect(replica) => self.inspect(disk, number, *replica),
+            Event::Survey(..) | Event::Appoint(..) | Event::Activate(_) => unreachable!(),
         }
     }
 
@@ -165,9 +165,6 @@ impl World {
         let Some(open) = &mut self.replica else {
             return self.answered(number, Observation::Down(replica));
         };
-        if waits_for_locks(open, call) {
-            return Err(WorldError::Unbuilt { lines });
-        }
         match take_call(replica, open, disk, call, &mut lines) {
             Ok(()) => {
                 self.last = number;

@@ -1,8 +1,8 @@
 use Rattle.std.proofs.Common.{[], map, rules}
-use Rattle.script_text.specs.Sentence.{txn_text}
+use Rattle.script_text.specs.Sentence.{txn_text, IsTxn}
 use Rattle.order_machine.specs.Lines.{op_text}
-use Rattle.order_machine.specs.WordReading.{order_words, IsOrder}
-use Rattle.order_machine.proofs.Wrongs.{same_first, none_there, wrong_there, order_behind, no_txn, IsOrder-no_txn}
+use Rattle.order_machine.specs.WordReading.{order_words, IsOrder, op_words, AreSaidOps}
+use Rattle.order_machine.proofs.Wrongs.{same_first, none_there, wrong_there, first_behind, no_txn, IsOrder-no_txn}
 use Rattle.order_machine.proofs.list_words.order.Goals as goal
 
 pub returns-in_default : goal.returns-in_default
@@ -17,4 +17,4 @@ returns-in_default-2 c =
 pub returns-in_err-ops : goal.returns-in_err-ops
 returns-in_err-ops c =
     let read = rw c.in-Some.is at c.in_ok-t.ensures.some in
-    order_behind c.in-Some.t read.0 c.args.words.now _ c.in_err-ops.field-0.0 c.from_residual-in_err-ops.result c.in-len1-up.len_at_least read.1 (search rules) c.in_err-ops.ensures
+    first_behind txn_text IsTxn op_words AreSaidOps c.in-Some.t read.0 c.args.words.now _ c.in_err-ops.field-0.0 c.from_residual-in_err-ops.result c.in-len1-up.len_at_least read.1 (search rules) c.in_err-ops.ensures

@@ -1,6 +1,6 @@
 use Rattle.std.proofs.Common.{[], ◌∷◌, decimal, rules, lit<}
-use Rattle.order_machine.specs.WordReading.{pair_words, IsPair}
-use Rattle.order_machine.proofs.Wrongs.{same_first, none_there, wrong_there, pair_behind}
+use Rattle.order_machine.specs.WordReading.{IsReplica, number_words, IsNumber, pair_words, IsPair}
+use Rattle.order_machine.proofs.Wrongs.{same_first, none_there, wrong_there, first_behind}
 use Rattle.order_machine.proofs.operands.replica_and_number.Goals as goal
 
 pub returns-in_default : goal.returns-in_default
@@ -13,4 +13,4 @@ returns-in_default-replica c =
 
 pub returns-in_err-n : goal.returns-in_err-n
 returns-in_err-n c =
-    pair_behind c.in-Some.r c.in-Some.ensures.some.0 c.args.words.now _ c.in_err-n.field-0.0 c.from_residual.result c.in-len1-up.len_at_least c.in-Some.ensures.some.1 (search rules) c.in_err-n.ensures
+    first_behind decimal IsReplica number_words IsNumber c.in-Some.r c.in-Some.ensures.some.0 c.args.words.now _ c.in_err-n.field-0.0 c.from_residual.result c.in-len1-up.len_at_least c.in-Some.ensures.some.1 (search rules) c.in_err-n.ensures

@@ -36,6 +36,9 @@ returns-in_err-one_replica-in-NotActive c = behind.not_active_error c.args.form 
 pub returns-in_err-one_txn-in-Ended : goal.returns-in_err-one_txn-in-Ended
 returns-in_err-one_txn-in-Ended c = behind.ended_error c.args.form c.in-Ended.is (texts c.args.words.now) c.in_err-one_txn-in-Ended.field-0.0 c.from_residual-in_err-one_txn-in-Ended.result (search rules) c.in_err-one_txn-in-Ended.ensures
 
+pub returns-in_err-one_txn-in-Locked : goal.returns-in_err-one_txn-in-Locked
+returns-in_err-one_txn-in-Locked c = behind.locked_error c.args.form c.in-Locked.is (texts c.args.words.now) c.in_err-one_txn-in-Locked.field-0.0 c.from_residual-in_err-one_txn-in-Locked.result (search rules) c.in_err-one_txn-in-Locked.ensures
+
 pub returns-in_err-alone-in-True : goal.returns-in_err-alone-in-True
 returns-in_err-alone-in-True c = behind.true_error c.args.form c.in-True.is (texts c.args.words.now) c.in_err-alone-in-True.field-0.0 c.from_residual-in_err-alone-in-True.result (search rules) c.in_err-alone-in-True.ensures
 
@@ -57,8 +60,11 @@ returns-in_err-alone-in-WrongKind c = behind.wrong_kind_error c.args.form c.in-W
 pub returns-in_err-one_replica-in-Fault : goal.returns-in_err-one_replica-in-Fault
 returns-in_err-one_replica-in-Fault c = behind.fault_error c.args.form c.in-Fault.is (texts c.args.words.now) c.in_err-one_replica-in-Fault.field-0.0 c.from_residual-in_err-one_replica-in-Fault.result (search rules) c.in_err-one_replica-in-Fault.ensures
 
-pub returns-in_err-up_alone-in-Ignored : goal.returns-in_err-up_alone-in-Ignored
-returns-in_err-up_alone-in-Ignored c = behind.ignored_up_error c.args.form c.in-Ignored.is (texts c.args.words.now) c.in_err-up_alone-in-Ignored.field-0.0 c.from_residual-in_err-up_alone-in-Ignored.result (search rules) c.in_err-up_alone-in-Ignored.ensures
+pub returns-in_err-ignored-in-Ignored : goal.returns-in_err-ignored-in-Ignored
+returns-in_err-ignored-in-Ignored c = behind.ignored_error c.args.form c.in-Ignored.is (texts c.args.words.now) c.in_err-ignored-in-Ignored.field-0.0 c.from_residual-in_err-ignored-in-Ignored.result (search rules) c.in_err-ignored-in-Ignored.ensures
+
+pub returns-in_err-r-in-Progress : goal.returns-in_err-r-in-Progress
+returns-in_err-r-in-Progress c = behind.progress_error c.args.form c.in-Progress.is (texts c.args.words.now) c.in_err-r-in-Progress.field-0.0 c.from_residual-in_err-r-in-Progress.result (search rules) c.in_err-r-in-Progress.ensures
 
 pub returns-in_err-r-in-State : goal.returns-in_err-r-in-State
 returns-in_err-r-in-State c = behind.state_error c.args.form c.in-State.is (texts c.args.words.now) c.in_err-r-in-State.field-0.0 c.from_residual-in_err-r-in-State.result (search rules) c.in_err-r-in-State.ensures

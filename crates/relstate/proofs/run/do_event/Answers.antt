@@ -1,29 +1,17 @@
 use Rattle.std.proofs.Common.{◌∙◌, sym, ap, subst, List, ◌∷◌, ◌++◌, Some, Ok, Err, refl, inr, take}
 use Rattle.std.specs.Io.KnownBytes.{append_known}
 use Rattle.order_machine.specs.declared.observation.Observation.{Observation}
-use Rattle.order_machine.specs.Machine.{empty_machine}
-use Rattle.order_machine.specs.Legal.{moved_all}
 use Rattle.order_machine.specs.Lines.{lines_text}
-use Rattle.world.specs.declared.error.WorldError.{WorldError}
 use Rattle.relstate.specs.Ran.{CutShort}
 use Rattle.relstate.specs.Reached.{Writes}
 use Rattle.relstate.specs.declared.lines.WriteError.{WriteError}
 use Rattle.relstate.proofs.Calls.{here}
 use Rattle.relstate.proofs.Disks.{Did, keeps_failed, keeps_unwritten}
-use Rattle.relstate.proofs.Reach.{ends_at_bad_line, after_event, event_cut_off, stops}
+use Rattle.relstate.proofs.Reach.{after_event, event_cut_off, stops}
 use Rattle.relstate.proofs.run.do_event.Goals as goal
 
 pub event-requires-clause-here : goal.event-requires-clause-here
 event-requires-clause-here g c = here c.args.event.now c.requires.built
-
-pub returns-in-Err-Unbuilt-clause-done : goal.returns-in-Err-Unbuilt-clause-done
-returns-in-Err-Unbuilt-clause-done g c =
-    let S : WorldError → Type 0 = λ e. Did g.M.Disk.images g.M.Disk.faults g.M.Disk.marks c.args.world.now c.event.new.self c.args.fleet.now.items c.event.new.fleet.items c.args.event.now (Err e) in
-    let did = subst S c.in-Err-Unbuilt.field-0-is (record { serves = c.in-Err-Unbuilt.ensures.serves; still = c.in-Err-Unbuilt.ensures.still; faulted = c.in-Err-Unbuilt.ensures.faults; marked = c.in-Err-Unbuilt.ensures.marks }) in
-    λ input held holds before left raw first spells at l d h.
-    ends_at_bad_line input held holds before left raw c.args.world.now _ _ c.args.number c.ended.result c.write_bad_line.result d
-    (keeps_failed input held holds before (raw ∷ left) c.args.world.now c.event.new.self c.args.event.now _ d did (raw ∷ left))
-    (inr (c.args.event.now, spells, (did.serves.1 (moved_all empty_machine d.steps) d.stands).0)) at h c.write_bad_line.ensures.writes c.ended.ensures
 
 pub returns-in-Err-NoMemory-clause-done : goal.returns-in-Err-NoMemory-clause-done
 returns-in-Err-NoMemory-clause-done g c =

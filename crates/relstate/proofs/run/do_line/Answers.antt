@@ -1,4 +1,4 @@
-use Rattle.std.proofs.Common.{ap, subst, ℕ, List, ◌∷◌, Option, Err, inl, inr, refl}
+use Rattle.std.proofs.Common.{ap, subst, ℕ, List, ◌∷◌, Option, Err, inr, refl}
 use Rattle.std.specs.Option.{IfSome, IfNone}
 use Rattle.script_text.specs.declared.event.Event.{Event}
 use Rattle.script_text.specs.Sentence.{Spells, IsSkipped, IsBad}
@@ -27,7 +27,7 @@ returns-in-Err-BadLine-clause-done g c =
     λ input held holds before left raw first text at l d h.
     ends_at_bad_line input held holds before left raw c.args.world.now _ _ c.args.number c.ended.result c.write_bad_line.result d
     (keeps input held holds before (raw ∷ left) c.args.world.now d (raw ∷ left))
-    (inl (subst IsBad text bad)) at h c.write_bad_line.ensures.writes c.ended.ensures
+    (subst IsBad text bad) at h c.write_bad_line.ensures.writes c.ended.ensures
 
 pub returns-in-Err-NoMemory-clause-done : goal.returns-in-Err-NoMemory-clause-done
 returns-in-Err-NoMemory-clause-done g c = λ input held holds before left raw first text at l d h.

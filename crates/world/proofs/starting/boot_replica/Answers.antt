@@ -2,6 +2,7 @@ use Rattle.std.proofs.Common.{◌≡◌, ◌∙◌, ◌++◌, ◌∷◌, [], ℕ
 use Rattle.order_machine.specs.declared.observation.Observation.TheVariants as says
 use Rattle.world.specs.Fleet.{faults_in}
 use Rattle.world.proofs.Booting.{over_new, boots_whole, boots_unopened, boots_unstarted, started_lines, cut_lines, one_fault, fault_of_zero, fresh_may_start}
+use Rattle.txn_front.specs.Front.{Fronted}
 use Rattle.world.proofs.Faultless.{fault_first}
 use Rattle.world.proofs.starting.boot_replica.Goals as goal
 
@@ -28,6 +29,14 @@ start-requires-clause-room g c =
     let done = c.in_ok-opened.ensures in
     let n = over_new _ c.in-Some.opened (g.M.Disk.images c.args.disk.now) (g.M.Disk.images disk) (g.M.Disk.seen disk) _ _ c.requires.untold c.in-Some.is c.requires.empty done.stop (g.met.M.CrashDisk.tells disk) (g.met.M.Disk.seen_is_image disk) done.opened done.fresh done.told in
     omega (arith, n.fresh.last)
+
+pub start-requires-clause-counted : goal.start-requires-clause-counted
+start-requires-clause-counted g c =
+    let disk = c.open_replica.new.disk in
+    let done = c.in_ok-opened.ensures in
+    let n = over_new _ c.in-Some.opened (g.M.Disk.images c.args.disk.now) (g.M.Disk.images disk) (g.M.Disk.seen disk) _ _ c.requires.untold c.in-Some.is c.requires.empty done.stop (g.met.M.CrashDisk.tells disk) (g.met.M.Disk.seen_is_image disk) done.opened done.fresh done.told in
+    let none : c.in-Some.opened.front.begins ≡ 0 = ap (λ (f : Fronted). f.begins) n.fresh.front in
+    omega (arith, none)
 
 pub returns-in-Ok-clause-whole : goal.returns-in-Ok-clause-whole
 returns-in-Ok-clause-whole g c =

@@ -8,7 +8,7 @@ returns-clause-stands g c = λ log o.
     let e = c.in_ok-outcome.ensures in
     let agrees = e.agrees log o.stands o.agrees in
     record {
-      first = ap (λ (r : Open). r.id) e.kept ∙ (stepped_id c.args.opened.now c.args.event.now ∙ o.first);
+      first = ap (λ (r : Open). r.id) e.kept.same ∙ (stepped_id c.args.opened.now c.args.event.now ∙ o.first);
       stands = agrees.0;
       agrees = agrees.1;
       opened = e.opened;

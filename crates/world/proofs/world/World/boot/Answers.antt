@@ -10,7 +10,7 @@ returns-then-self-clause-serves g c =
     let done = c.answered.ensures in
     let booted = ap (λ k. k.booted) (sym c.self.view_is) ∙ c.if-self.true in
     let again = boot_refuses c.args.self.now (g.M.Disk.images c.args.disk.now) booted in
-    answered_serves _ _ _ _ (says.Refused 9) c.args.number _ done.lines done.stays done.memory (omega arith) (λ m s. answered_refused m (Boot 0 (0 ∷ [])) (says.Refused 9) (again m s) (λ u. u))
+    answered_serves _ _ _ _ (says.Refused 9) c.args.number _ done.lines done.stays done.memory (omega arith) (λ m s. answered_refused m (Boot 0 (0 ∷ [])) (says.Refused 9) (again m s))
 
 pub returns-clause-serves : goal.returns-clause-serves
 returns-clause-serves g c =

@@ -1,4 +1,4 @@
-use Rattle.std.proofs.Common.{rules, Bool, ◌≡◌, ◌∙◌, sym, ap, subst, List, [], ◌∷◌, ◌++◌, Some, None, true, false, refl, arith, IfOk, OnOk}
+use Rattle.std.proofs.Common.{rules, Bool, ◌≡◌, ◌∙◌, sym, ap, subst, List, [], ◌∷◌, ◌++◌, Some, None, true, refl, arith, IfOk, OnOk}
 use Rattle.log_store.specs.declared.kept.Kept.{Kept as Log}
 use Rattle.order_machine.specs.declared.observation.Observation.{Observation}
 use Rattle.order_machine.specs.declared.observation.Observation.TheVariants as says
@@ -7,9 +7,9 @@ use Rattle.script_text.specs.declared.event.Event.TheVariants.{Client}
 use Rattle.replica.specs.declared.step.StepEvent.TheVariants as steps
 use Rattle.world.specs.Fleet.{TellsZero}
 use Rattle.world.specs.Kept.{Kept}
-use Rattle.world.specs.Steps.{IsCutOff, waits, told_by}
+use Rattle.world.specs.Steps.{IsCutOff, told_by}
 use Rattle.world.specs.World.{IsOpen, StandsFor}
-use Rattle.world.proofs.Clients.{kept, client_done, client_cut, client_cut_still, client_short, client_waits, client_down, client_there, client_result}
+use Rattle.world.proofs.Clients.{kept, client_done, client_cut, client_cut_still, client_short, client_down, client_there, client_result}
 use Rattle.world.proofs.Faultless.{faulted_rise, others_told, others_cut}
 use Rattle.world.proofs.Still.{stands_still}
 use Rattle.world.proofs.Calls.{IsDone}
@@ -23,12 +23,6 @@ returns-in_default-clause-serves g c =
     let told = subst (λ n. IfOk c.answered-in_default.result (λ lines. lines ≡ says.Down n ∷ [])) c.requires.first done.lines in
     let stays = subst (λ (k : Kept). OnOk c.answered-in_default.result (c.answered-in_default.new.self ≡ record k { last = c.args.number })) c.self.view_is done.stays in
     client_result _ _ (record c.args.self.now { last = c.args.number }) _ _ _ (says.Down 0 ∷ []) _ told stays done.memory (λ m s. stands_still _ _ m s) (client_down _ c.args.number _ _ _ booted none c.requires.rising refl)
-
-pub returns-then-waits_for_locks-clause-serves : goal.returns-then-waits_for_locks-clause-serves
-returns-then-waits_for_locks-clause-serves g c =
-    let booted : c.args.self.now.booted ≡ true = ap (λ k. k.booted) (sym c.self.view_is) ∙ c.if-not-self.false in
-    let some : c.args.self.now.replica ≡ Some c.in-Some.open = ap (λ k. k.replica) (sym c.self.view_is) ∙ c.in-Some.is in
-    (c.new-lines.ensures, λ m s. client_waits c.args.self.now c.in-Some.open c.args.call.now (g.M.Disk.images c.args.disk.now) booted some (search rules) m s)
 
 pub take_call-requires-clause-stands : goal.take_call-requires-clause-stands
 take_call-requires-clause-stands g c =
@@ -60,30 +54,27 @@ returns-in-Ok-clause-serves g c =
     let some : c.args.self.now.replica ≡ Some c.in-Some.open = ap (λ k. k.replica) (sym c.self.view_is) ∙ c.in-Some.is in
     let none : c.new-lines.result ≡ [] = c.new-lines.ensures in
     let told : c.take_call.new.lines ≡ told_by c.in-Some.open (steps.Client c.args.call.now) = c.in-Ok.ensures.told ∙ ap (λ ls. ls ++ told_by c.in-Some.open (steps.Client c.args.call.now)) none in
-    let alone : waits c.in-Some.open c.args.call.now ≡ false = search rules in
-    let done : IsDone c.in-Some.open c.take_call.new.opened c.args.call.now (g.M.Disk.images c.args.disk.now) (g.M.Disk.images c.take_call.new.disk) c.take_call.new.lines = record { kept = c.in-Ok.ensures.kept; stands = c.in-Ok.ensures.stands; lines = told; alone = alone; fits = c.requires.fits } in
+    let done : IsDone c.in-Some.open c.take_call.new.opened c.args.call.now (g.M.Disk.images c.args.disk.now) (g.M.Disk.images c.take_call.new.disk) c.take_call.new.lines = record { kept = c.in-Ok.ensures.kept.same; alike = c.in-Ok.ensures.kept.front; stands = c.in-Ok.ensures.stands; lines = told; fits = c.requires.fits } in
     let serves = client_done c.args.self.now c.args.number c.in-Some.open c.take_call.new.opened c.args.call.now (g.M.Disk.images c.args.disk.now) (g.M.Disk.images c.take_call.new.disk) c.take_call.new.lines booted some c.requires.rising done in
-    λ m s. let v = serves m s in (v.0, subst (λ (b : Bool). StandsFor (kept c.args.number b (Some c.take_call.new.opened)) (g.M.Disk.images c.take_call.new.disk) (moved m (Client 0 c.args.call.now) c.take_call.new.lines)) (ap (λ k. k.booted) (sym c.self.view_is)) v.1, v.2, v.3)
+    λ m s. let v = serves m s in (v.0, subst (λ (b : Bool). StandsFor (kept c.args.number b (Some c.take_call.new.opened)) (g.M.Disk.images c.take_call.new.disk) (moved m (Client 0 c.args.call.now) c.take_call.new.lines)) (ap (λ k. k.booted) (sym c.self.view_is)) v.1, v.2)
 
 pub returns-in-Err-Disk-clause-serves : goal.returns-in-Err-Disk-clause-serves
 returns-in-Err-Disk-clause-serves g c =
     let booted : c.args.self.now.booted ≡ true = ap (λ k. k.booted) (sym c.self.view_is) ∙ c.if-not-self.false in
     let some : c.args.self.now.replica ≡ Some c.in-Some.open = ap (λ k. k.replica) (sym c.self.view_is) ∙ c.in-Some.is in
     let none : c.new-lines.result ≡ [] = c.new-lines.ensures in
-    let alone : waits c.in-Some.open c.args.call.now ≡ false = search rules in
     let cut : (log : Log) → IsOpen c.in-Some.open log (g.M.Disk.images c.args.disk.now) → IsCutOff c.in-Some.open (steps.Client c.args.call.now) log [] c.take_call.new.lines (g.M.Disk.images c.take_call.new.disk) = λ log o. subst (λ (ls : List Observation). IsCutOff c.in-Some.open (steps.Client c.args.call.now) log ls c.take_call.new.lines (g.M.Disk.images c.take_call.new.disk)) none (c.in-Err-Disk.ensures.cut (search rules) log o) in
     let told = subst (λ n. IfOk c.faulted.result (λ lines. lines ≡ c.take_call.new.lines ++ says.Fault n ∷ [])) c.requires.first c.faulted.ensures.lines in
     let closed = subst (λ (b : Bool). OnOk c.faulted.result (c.faulted.new.self ≡ kept c.args.number b None)) (ap (λ k. k.booted) c.self.view_is) c.faulted.ensures.closed in
     client_result c.args.self.now c.faulted.new.self (kept c.args.number c.args.self.now.booted None) (g.M.Disk.images c.args.disk.now) (g.M.Disk.images c.take_call.new.disk) c.args.call.now (c.take_call.new.lines ++ says.Fault 0 ∷ []) c.faulted.result told closed c.faulted.ensures.memory
-    (λ m s. client_cut_still c.args.self.now c.args.number c.in-Some.open c.args.call.now (g.M.Disk.images c.args.disk.now) (g.M.Disk.images c.take_call.new.disk) c.take_call.new.lines booted some c.requires.rising c.requires.fits alone cut m s)
-    (client_cut c.args.self.now c.args.number c.in-Some.open c.args.call.now (g.M.Disk.images c.args.disk.now) (g.M.Disk.images c.take_call.new.disk) c.take_call.new.lines (c.take_call.new.lines ++ says.Fault 0 ∷ []) booted some c.requires.rising c.requires.fits alone cut refl)
+    (λ m s. client_cut_still c.args.self.now c.args.number c.in-Some.open c.args.call.now (g.M.Disk.images c.args.disk.now) (g.M.Disk.images c.take_call.new.disk) c.take_call.new.lines booted some c.requires.rising c.requires.fits cut m s)
+    (client_cut c.args.self.now c.args.number c.in-Some.open c.args.call.now (g.M.Disk.images c.args.disk.now) (g.M.Disk.images c.take_call.new.disk) c.take_call.new.lines (c.take_call.new.lines ++ says.Fault 0 ∷ []) booted some c.requires.rising c.requires.fits cut refl)
 
 pub returns-in-Err-Disk-clause-faults : goal.returns-in-Err-Disk-clause-faults
 returns-in-Err-Disk-clause-faults g c =
     let booted : c.args.self.now.booted ≡ true = ap (λ k. k.booted) (sym c.self.view_is) ∙ c.if-not-self.false in
     let some : c.args.self.now.replica ≡ Some c.in-Some.open = ap (λ k. k.replica) (sym c.self.view_is) ∙ c.in-Some.is in
     let none : c.new-lines.result ≡ [] = c.new-lines.ensures in
-    let alone : waits c.in-Some.open c.args.call.now ≡ false = search rules in
     let cut : (log : Log) → IsOpen c.in-Some.open log (g.M.Disk.images c.args.disk.now) → IsCutOff c.in-Some.open (steps.Client c.args.call.now) log [] c.take_call.new.lines (g.M.Disk.images c.take_call.new.disk) = λ log o. subst (λ (ls : List Observation). IsCutOff c.in-Some.open (steps.Client c.args.call.now) log ls c.take_call.new.lines (g.M.Disk.images c.take_call.new.disk)) none (c.in-Err-Disk.ensures.cut (search rules) log o) in
     let there = (client_there c.args.self.now c.in-Some.open _ c.requires.stands.0 booted some c.requires.stands.1).0 in
     let told = subst (λ n. IfOk c.faulted.result (λ lines. lines ≡ c.take_call.new.lines ++ says.Fault n ∷ [])) c.requires.first c.faulted.ensures.lines in
@@ -93,8 +84,7 @@ pub returns-in-Err-NoMemory-clause-serves : goal.returns-in-Err-NoMemory-clause-
 returns-in-Err-NoMemory-clause-serves g c =
     let booted : c.args.self.now.booted ≡ true = ap (λ k. k.booted) (sym c.self.view_is) ∙ c.if-not-self.false in
     let some : c.args.self.now.replica ≡ Some c.in-Some.open = ap (λ k. k.replica) (sym c.self.view_is) ∙ c.in-Some.is in
-    let alone : waits c.in-Some.open c.args.call.now ≡ false = search rules in
-    λ m s. client_short c.args.self.now c.in-Some.open c.args.call.now (g.M.Disk.images c.args.disk.now) (g.M.Disk.images c.take_call.new.disk) booted some c.requires.fits alone (c.in-Err-NoMemory.ensures.memory (search rules)) m s
+    λ m s. client_short c.args.self.now c.in-Some.open c.args.call.now (g.M.Disk.images c.args.disk.now) (g.M.Disk.images c.take_call.new.disk) booted some c.requires.fits (c.in-Err-NoMemory.ensures.memory (search rules)) m s
 
 pub returns-in-Ok-clause-others : goal.returns-in-Ok-clause-others
 returns-in-Ok-clause-others g c =

@@ -11,7 +11,7 @@ pub returns-then-not-self-clause-serves : goal.returns-then-not-self-clause-serv
 returns-then-not-self-clause-serves g c =
     let done = c.answered.ensures in
     let fresh = new_refuses c.args.self.now (g.M.Disk.images c.args.disk.now) (Crash 0 c.args.pick) (ap (λ k. k.booted) (sym c.self.view_is) ∙ c.if-not-self.true) refl in
-    answered_serves _ _ _ _ (says.Refused 9) c.args.number _ done.lines done.stays done.memory (omega arith) (λ m s. answered_refused m (Crash 0 c.args.pick) (says.Refused 9) (fresh m s) (λ u. u))
+    answered_serves _ _ _ _ (says.Refused 9) c.args.number _ done.lines done.stays done.memory (omega arith) (λ m s. answered_refused m (Crash 0 c.args.pick) (says.Refused 9) (fresh m s))
 
 pub returns-in_err-lines-clause-serves : goal.returns-in_err-lines-clause-serves
 returns-in_err-lines-clause-serves g c =

@@ -16,14 +16,14 @@ pub returns-then-not-self-clause-serves : goal.returns-then-not-self-clause-serv
 returns-then-not-self-clause-serves g c =
     let done = c.answered.ensures in
     let fresh = new_refuses c.args.self.now (g.M.Disk.images c.args.disk.now) (Inspect 0) (ap (λ k. k.booted) (sym c.self.view_is) ∙ c.if-not-self.true) refl in
-    answered_serves _ _ _ _ (says.Refused 9) c.args.number _ done.lines done.stays done.memory (omega arith) (λ m s. answered_refused m (Inspect 0) (says.Refused 9) (fresh m s) (λ u. u))
+    answered_serves _ _ _ _ (says.Refused 9) c.args.number _ done.lines done.stays done.memory (omega arith) (λ m s. answered_refused m (Inspect 0) (says.Refused 9) (fresh m s))
 
 pub returns-in_default-clause-serves : goal.returns-in_default-clause-serves
 returns-in_default-clause-serves g c =
     let done = c.answered-in_default.ensures in
     let booted = ap (λ k. k.booted) (sym c.self.view_is) ∙ c.if-not-self.false in
     let down = inspect_down c.args.self.now (g.M.Disk.images c.args.disk.now) booted (ap (λ k. k.replica) (sym c.self.view_is) ∙ c.in_default.is) in
-    answered_serves _ _ _ _ (says.Down c.args.replica) c.args.number _ done.lines done.stays done.memory (omega arith) (λ m s. answered_refused m (Inspect 0) (says.Down c.args.replica) (down m s ∙ ap (λ q. Some (says.Down q)) (sym c.requires.first)) (λ u. u))
+    answered_serves _ _ _ _ (says.Down c.args.replica) c.args.number _ done.lines done.stays done.memory (omega arith) (λ m s. answered_refused m (Inspect 0) (says.Down c.args.replica) (down m s ∙ ap (λ q. Some (says.Down q)) (sym c.requires.first)))
 
 pub returns-in_err-lines-clause-serves : goal.returns-in_err-lines-clause-serves
 returns-in_err-lines-clause-serves g c =

@@ -11,7 +11,7 @@ pub returns-then-not-self-clause-serves : goal.returns-then-not-self-clause-serv
 returns-then-not-self-clause-serves g c =
     let done = c.answered.ensures in
     let fresh = new_refuses c.args.self.now (g.M.Disk.images c.args.disk.now) (Reboot 0) (ap (λ k. k.booted) (sym c.self.view_is) ∙ c.if-not-self.true) refl in
-    answered_serves _ _ _ _ (says.Refused 9) c.args.number _ done.lines done.stays done.memory (omega arith) (λ m s. answered_refused m (Reboot 0) (says.Refused 9) (fresh m s) (λ u. u))
+    answered_serves _ _ _ _ (says.Refused 9) c.args.number _ done.lines done.stays done.memory (omega arith) (λ m s. answered_refused m (Reboot 0) (says.Refused 9) (fresh m s))
 
 pub returns-then-is_some-clause-serves : goal.returns-then-is_some-clause-serves
 returns-then-is_some-clause-serves g c =
@@ -19,7 +19,7 @@ returns-then-is_some-clause-serves g c =
     let booted = ap (λ k. k.booted) (sym c.self.view_is) ∙ c.if-not-self.false in
     let there = some_of c.self.inside.replica (sym c.is_some.ensures ∙ c.if-is_some.true) in
     let ignored = reboot_ignored c.args.self.now (g.M.Disk.images c.args.disk.now) there.0 booted (ap (λ k. k.replica) (sym c.self.view_is) ∙ there.1) in
-    answered_serves _ _ _ _ says.IgnoredUp c.args.number _ done.lines done.stays done.memory (omega arith) (λ m s. answered_refused m (Reboot 0) says.IgnoredUp (ignored m s) (λ u. u))
+    answered_serves _ _ _ _ says.IgnoredUp c.args.number _ done.lines done.stays done.memory (omega arith) (λ m s. answered_refused m (Reboot 0) says.IgnoredUp (ignored m s))
 
 pub returns-in_err-self-inside-clause-serves : goal.returns-in_err-self-inside-clause-serves
 returns-in_err-self-inside-clause-serves g c =

@@ -1,0 +1,112 @@
+-- The abort at a booted world of a transaction that goes on.
+use Rattle.std.proofs.Common.{◌≡◌, ◌∙◌, sym, ap, subst, ℕ, List, [], ◌∷◌, Bool, true, false, cond, Option, Some, None, is_some, refl, arith}
+use Rattle.std.specs.Option.{option_map_or}
+use Rattle.std.specs.Map.{lookup}
+use Rattle.std.proofs.lemmas.Bool.{false≢true, cond-true}
+use Rattle.std.proofs.lemmas.Option.{same_Some, none-some}
+use Rattle.rc_base.specs.declared.ids.TxnId.{TxnId}
+use Rattle.rc_base.specs.Ids.{is_txn}
+use Rattle.rc_base.proofs.SameIds.{is_txn-true, is_txn_same}
+use Rattle.coll_model.specs.Effect.{State}
+use Rattle.key_locks.specs.Grants.{released}
+use Rattle.script_text.specs.declared.event.Event.TheVariants.{Client}
+use Rattle.script_text.specs.declared.event.Call.TheVariants.{Abort}
+use Rattle.order_machine.specs.declared.observation.Observation.TheVariants as says
+use Rattle.order_machine.specs.Machine.{Machine, Txn, Noted, put_txn, put_grants}
+use Rattle.order_machine.specs.Answers.{plain}
+use Rattle.order_machine.specs.Rows.{asking, going_at}
+use Rattle.order_machine.specs.Legal.{IsWhole, moved}
+use Rattle.order_machine.proofs.ProtectedGrants.{AreExclusive-released}
+use Rattle.txn_front.specs.Front.{Fronted, Going, going_of, told}
+use Rattle.world.specs.Running.{running, state_of, Runs, RunsWith, IsKept}
+use Rattle.world.proofs.Answer.{answer_serves}
+use Rattle.world.proofs.Asked.{going_told}
+use Rattle.world.proofs.Changed.{ChangesAt, at_own, at_other, kept_other, with_call}
+use Rattle.key_locks.proofs.Flat.{alike_released}
+use Rattle.order_machine.proofs.ProtectedCalls.{AreProtected-released}
+use Rattle.world.proofs.Quiet.{holds_behind}
+use Rattle.world.proofs.Told.{machine_of, IsKnown, known_of, answer_told}
+
+-- the transaction goes on no more, and its locks go
+abbrev pub Ends : Fronted → Fronted → TxnId → Type 0
+Ends front new t = ChangesAt front new front.begins t None (released front.grants t)
+
+abbrev ended_of : Txn → Txn
+ended_of x = record x { live = false }
+
+abbrev done_call : TxnId → Noted
+done_call t = record { call = Abort t; answer = says.Done; op = None }
+
+-- is_txn both ways
+pub other_way : (u t : TxnId) → is_txn u t ≡ false → is_txn t u ≡ false
+other_way u t other = by (is_txn t u) refl
+  where
+    by : (b : Bool) → is_txn t u ≡ b → is_txn t u ≡ false
+    by false e = e
+    by true e = absurd (false≢true (sym other ∙ (ap (λ (v : TxnId). is_txn u v) (is_txn-true t u e) ∙ is_txn_same u)))
+
+each_aborted : (front new : Fronted) (shown : ℕ) (contents : State) (m : Machine) (h : Runs front shown contents m) (t : TxnId) (g : Going) (k : IsKnown front shown contents m h t g) → Ends front new t →
+    (u : TxnId) (y : Txn) (b : Bool) → is_txn u t ≡ b → cond b (Some (with_call (ended_of k.txn) (done_call t))) (cond b (Some (ended_of k.txn)) (lookup (is_txn u) h.txns)) ≡ Some y → IsKept new (released h.grants t) h.entries h.acknowledged u y
+each_aborted front new shown contents m h t g k c u y true same e =
+    let x = k.txn in
+    let was = h.each t x k.known in
+    let own : going_of new t ≡ None = at_own front new front.begins t None (released front.grants t) c in
+    let P : TxnId → Type 0 = λ v. IsKept new (released h.grants t) h.entries h.acknowledged v y in
+    let Q : Txn → Type 0 = λ z. IsKept new (released h.grants t) h.entries h.acknowledged t z in
+    subst P (sym (is_txn-true u t same)) (subst Q (same_Some (with_call (ended_of x) (done_call t)) y e) (record {
+      home = was.home;
+      epoch = was.epoch;
+      begun = let b = was.begun in let n = c.begins_now in omega (arith, b, n);
+      on = ap is_some (sym own);
+      asked = was.asked;
+      not_held = λ on. absurd (false≢true on);
+      not_acknowledged = λ on. absurd (false≢true on);
+      logged = λ f is. absurd (none-some f (sym own ∙ is));
+      protected = λ on. absurd (false≢true on);
+    }))
+each_aborted front new shown contents m h t g k c u y false other e =
+    kept_other front new front.begins t None (released front.grants t) h.grants (released h.grants t) h.entries h.acknowledged c (omega arith) u y other (h.each u y e)
+    (λ p. AreProtected-released h.grants t u (state_of h.entries) y.calls (other_way u t other) p)
+
+abbrev aborted_txns : (front : Fronted) (shown : ℕ) (contents : State) (m : Machine) (h : Runs front shown contents m) (t : TxnId) (g : Going) → IsKnown front shown contents m h t g → List (TxnId × Txn)
+aborted_txns front shown contents m h t g k = (t, with_call (ended_of k.txn) (done_call t)) ∷ (t, ended_of k.txn) ∷ h.txns
+
+aborted_runs : (front new : Fronted) (shown : ℕ) (contents : State) (m : Machine) (h : Runs front shown contents m) (t : TxnId) (g : Going) (k : IsKnown front shown contents m h t g) → Ends front new t →
+    Runs new shown contents (running h.entries h.acknowledged (aborted_txns front shown contents m h t g k) front.begins (released h.grants t))
+aborted_runs front new shown contents m h t g k c = record {
+  entries = h.entries;
+  acknowledged = h.acknowledged;
+  txns = aborted_txns front shown contents m h t g k;
+  grants = released h.grants t;
+  is = ap (λ n. running h.entries h.acknowledged (aborted_txns front shown contents m h t g k) n (released h.grants t)) (sym c.begins_now);
+  epoch = c.epoch ∙ h.epoch;
+  alike = λ name. alike_released h.grants front.grants h.alike t name ∙ c.grants_now name;
+  exclusive = AreExclusive-released h.grants t h.exclusive;
+  all_shown = h.all_shown;
+  sees = h.sees;
+  each = λ u y e. each_aborted front new shown contents m h t g k c u y (is_txn u t) refl e;
+  live_known = λ u f e. known_there u f e (is_txn u t) refl;
+  held = h.held;
+  held_begun = λ u e. let n = h.held_begun u e in let b = c.begins_now in omega (arith, n, b);
+}
+  where
+    known_there : (u : TxnId) (f : Going) → going_of new u ≡ Some f → (b : Bool) → is_txn u t ≡ b → (y : Txn) × (cond b (Some (with_call (ended_of k.txn) (done_call t))) (cond b (Some (ended_of k.txn)) (lookup (is_txn u) h.txns)) ≡ Some y)
+    known_there u f e true same = (with_call (ended_of k.txn) (done_call t), refl)
+    known_there u f e false other = h.live_known u f (sym (at_other front new front.begins t None (released front.grants t) c u other) ∙ e)
+
+pub aborted_serves : (front new : Fronted) (shown : ℕ) (contents : State) (m : Machine) (t : TxnId) (g : Going) → (h : Runs front shown contents m) → going_of front t ≡ Some g → Ends front new t →
+    IsWhole m (Client 0 (Abort t)) (says.Done ∷ []) × RunsWith h.entries new shown contents (moved m (Client 0 (Abort t)) (says.Done ∷ []))
+unfolding aborted_runs
+aborted_serves front new shown contents m t g h is c =
+    let n : Machine = machine_of h in
+    let k = known_of front shown contents m h t g is in
+    let there : going_at n 0 t ≡ Some k.txn = cond-true _ (lookup (is_txn t) h.txns) None k.live_there ∙ k.known in
+    let now : Machine = running h.entries h.acknowledged ((t, ended_of k.txn) ∷ h.txns) front.begins (released h.grants t) in
+    let asked : asking n 0 (Abort t) ≡ now = ap (λ o. option_map_or (λ x. put_txn (put_grants n 0 (released h.grants t)) t (ended_of x)) o n) there in
+    let says_so : told front contents (Abort t) ≡ Some (plain says.Done) = going_told front contents (Abort t) t g refl is in
+    let then = aborted_runs front new shown contents m h t g k c in
+    let known_now : lookup (is_txn t) now.txns ≡ Some (ended_of k.txn) = cond-true (is_txn t t) (Some (ended_of k.txn)) (lookup (is_txn t) h.txns) (is_txn_same t) in
+    let R : Option Txn → Type 0 = λ o. RunsWith h.entries new shown contents (option_map_or (λ y. put_txn now t (with_call y (done_call t))) o now) in
+    let all = subst R (sym known_now) (then, refl) in
+    let P : Machine → Type 0 = λ at. IsWhole at (Client 0 (Abort t)) (says.Done ∷ []) × RunsWith h.entries new shown contents (moved at (Client 0 (Abort t)) (says.Done ∷ [])) in
+    subst P (sym h.is) (answer_serves n now 0 (Abort t) says.Done None (RunsWith h.entries new shown contents) refl asked (answer_told front shown contents m h (Abort t) ∙ says_so) refl (holds_behind _ _ _ _ all.0) all)
