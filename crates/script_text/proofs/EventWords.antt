@@ -14,7 +14,7 @@ use Rattle.script_text.specs.declared.event.Event.TheVariants.{Boot, Client, Arm
 use Rattle.script_text.specs.declared.event.Call.{Call}
 use Rattle.script_text.specs.declared.event.Call.TheVariants as calls
 use Rattle.script_text.specs.Letters.{is_key_letter, is_key_word, is_value_word}
-use Rattle.script_text.specs.Sentence.{words_at, words_of, txn_text, kind_text, members_text, IsEpoch, IsTxn, IsBuiltTxn, IsBuiltCall, IsBuilt, Spells}
+use Rattle.script_text.specs.Sentence.{words_at, words_of, epoch_text, txn_text, kind_text, members_text, IsEpoch, IsTxn, IsBuiltEpoch, IsBuiltTxn, IsBuiltCall, IsBuilt, Spells}
 use Rattle.script_text.specs.Reading.{epoch_parts, txn_parts, IsSentence}
 use Rattle.script_text.proofs.Numbers.{Lacks, Lacks-decimal}
 use Rattle.script_text.proofs.Parts.{AllLack, Lacks-joined, joined_from_parts, parts_from_joined}
@@ -28,6 +28,26 @@ AllLack-txn_parts c t low is = (
   Lacks-decimal c t.epoch.loss low (omega arith),
   (Lacks-decimal c t.epoch.number low (omega arith), (Lacks-decimal c t.n low (omega arith), tt)),
 )
+
+-- a text is one epoch's
+pub same_epoch : (word : List ℕ) (d e : Epoch) → IsEpoch d → IsEpoch e → word ≡ epoch_text d → word ≡ epoch_text e → d ≡ e
+same_epoch word d e is_d is_e of_d of_e =
+    let one = parts_from_joined 46 word (epoch_parts d) (lit< tt) (AllLack-epoch_parts 46 d (lit< tt) is_d) of_d in
+    let other = parts_from_joined 46 word (epoch_parts e) (lit< tt) (AllLack-epoch_parts 46 e (lit< tt) is_e) of_e in
+    by_parts (sym one ∙ other) where
+      from_parts : d.loss ≡ e.loss → d.number ≡ e.number → d ≡ e
+      from_parts losses numbers =
+          ap (λ (l : ℕ). let e' : Epoch = record { loss = l; number = d.number } in e') losses
+          ∙ ap (λ (k : ℕ). let e' : Epoch = record { loss = e.loss; number = k } in e') numbers
+
+      by_parts : epoch_parts d ≡ epoch_parts e → d ≡ e
+      by_parts same =
+          let losses : decimal d.loss ≡ decimal e.loss = cc in
+          let numbers : decimal d.number ≡ decimal e.number = cc in
+          from_parts (decimal_injective d.loss e.loss (omega arith) (omega arith) losses) (decimal_injective d.number e.number (omega arith) (omega arith) numbers)
+
+same_built_epoch : (d e : Epoch) → IsBuiltEpoch d → IsBuiltEpoch e → epoch_text d ≡ epoch_text e → d ≡ e
+same_built_epoch d e is_d is_e same = same_epoch (epoch_text d) d e is_d.0 is_e.0 refl same
 
 txn_from_parts : (t u : TxnId) → t.epoch.loss ≡ u.epoch.loss → t.epoch.number ≡ u.epoch.number → t.n ≡ u.n → t ≡ u
 txn_from_parts t u losses numbers ns =
@@ -66,6 +86,9 @@ Lacks-text test (b ∷ bytes) space all =
     let each = both (test b) (list_all test bytes) all in
     (ne_eqb b 32 (λ e. false≢true (sym space ∙ (ap test (sym e) ∙ each.0))), Lacks-text test bytes space each.1)
 
+Lacks-epoch : (e : Epoch) → IsBuiltEpoch e → Lacks 32 (epoch_text e)
+Lacks-epoch e is = Lacks-joined 32 46 (epoch_parts e) refl (AllLack-epoch_parts 32 e (lit< tt) is.0)
+
 Lacks-txn : (t : TxnId) → IsBuiltTxn t → Lacks 32 (txn_text t)
 Lacks-txn t is = Lacks-joined 32 46 (txn_parts t) refl (AllLack-txn_parts 32 t (lit< tt) is.0)
 
@@ -96,18 +119,19 @@ AllLack-call r (calls.Delete t name key) zero is = (search rules, (Lacks-zero r 
 AllLack-call r (calls.Commit t) zero is = (search rules, (Lacks-zero r zero, (Lacks-txn t is, tt)))
 AllLack-call r (calls.Abort t) zero is = (search rules, (Lacks-zero r zero, (Lacks-txn t is, tt)))
 
+one_member : (members : List ℕ) → members ≡ 0 ∷ [] → Lacks 32 (members_text members)
+one_member members e = rw e (Lacks-decimal 32 0 (lit< tt) (lit< tt))
+
 AllLack-words : (event : Event) → IsBuilt event → AllLack 32 (words_of event)
-AllLack-words (Boot p members) is = (search rules, (Lacks-zero p is.0, (one_member members is.1, tt))) where
-  one_member : (ms : List ℕ) → ms ≡ 0 ∷ [] → Lacks 32 (members_text ms)
-  one_member ms e = rw e (Lacks-decimal 32 0 (lit< tt) (lit< tt))
+AllLack-words (Boot p members) is = (search rules, (Lacks-zero p is.0, (one_member members is.1, tt)))
 AllLack-words (Client r call) is = AllLack-call r call is.0 is.1
 AllLack-words (Arm r calls) is = (search rules, (Lacks-zero r is.0, (Lacks-decimal 32 calls (lit< tt) is.2, tt)))
 AllLack-words (Crash r pick) is = (search rules, (Lacks-zero r is.0, (Lacks-decimal 32 pick (lit< tt) is.1, tt)))
 AllLack-words (Reboot r) is = (search rules, (Lacks-zero r is, tt))
 AllLack-words (Inspect r) is = (search rules, (Lacks-zero r is, tt))
-AllLack-words (Survey r e) is = absurd is
-AllLack-words (Appoint e p members) is = absurd is
-AllLack-words (Activate e) is = absurd is
+AllLack-words (Survey r e) is = (search rules, (Lacks-zero r is.0, (Lacks-epoch e is.1, tt)))
+AllLack-words (Appoint e p members) is = (search rules, (Lacks-epoch e is.0, (Lacks-zero p is.1, (one_member members is.2, tt))))
+AllLack-words (Activate e) is = (search rules, (Lacks-epoch e is, tt))
 
 some_words_at : (r : ℕ) (call : Call) → 0 < length (words_at r call)
 some_words_at r call = grind arith
@@ -157,6 +181,15 @@ no_reboot q r call e = grind arith
 no_inspect : (q r : ℕ) (call : Call) → words_of (Inspect q) ≡ words_at r call → ⊥
 no_inspect q r call e = grind arith
 
+no_survey : (q : ℕ) (e : Epoch) (r : ℕ) (call : Call) → words_of (Survey q e) ≡ words_at r call → ⊥
+no_survey q e r call same = grind arith
+
+no_appoint : (e : Epoch) (p : ℕ) (members : List ℕ) (r : ℕ) (call : Call) → words_of (Appoint e p members) ≡ words_at r call → ⊥
+no_appoint e p members r call same = grind arith
+
+no_activate : (e : Epoch) (r : ℕ) (call : Call) → words_of (Activate e) ≡ words_at r call → ⊥
+no_activate e r call same = grind arith
+
 -- words are one event's
 same_call : (r : ℕ) (a b : Call) → IsBuiltCall a → IsBuiltCall b → words_at r a ≡ words_at r b → a ≡ b
 same_call r calls.Begin calls.Begin is_a is_b e = refl
@@ -191,22 +224,30 @@ same_event (Crash r n) (Crash s k) is_a is_b e =
     let same : n ≡ k = decimal_injective n k is_a.1 is_b.1 texts_same in cc
 same_event (Reboot r) (Reboot s) is_a is_b e = ap Reboot (is_a ∙ sym is_b)
 same_event (Inspect r) (Inspect s) is_a is_b e = ap Inspect (is_a ∙ sym is_b)
+same_event (Survey r d) (Survey s e) is_a is_b words =
+    let replicas : r ≡ s = is_a.0 ∙ sym is_b.0 in
+    let same = same_built_epoch d e is_a.1 is_b.1 cc in cc
+same_event (Appoint d p members) (Appoint e q others) is_a is_b words =
+    let same = same_built_epoch d e is_a.0 is_b.0 cc in
+    let primaries : p ≡ q = is_a.1 ∙ sym is_b.1 in
+    let lists : members ≡ others = is_a.2 ∙ sym is_b.2 in cc
+same_event (Activate d) (Activate e) is_a is_b words = ap Activate (same_built_epoch d e is_a is_b cc)
 same_event (Boot p members) (Client s call) is_a is_b e = absurd (no_boot p members s call e)
 same_event (Arm q n) (Client s call) is_a is_b e = absurd (no_arm q n s call e)
 same_event (Crash q n) (Client s call) is_a is_b e = absurd (no_crash q n s call e)
 same_event (Reboot q) (Client s call) is_a is_b e = absurd (no_reboot q s call e)
 same_event (Inspect q) (Client s call) is_a is_b e = absurd (no_inspect q s call e)
+same_event (Survey q d) (Client s call) is_a is_b e = absurd (no_survey q d s call e)
+same_event (Appoint d q members) (Client s call) is_a is_b e = absurd (no_appoint d q members s call e)
+same_event (Activate d) (Client s call) is_a is_b e = absurd (no_activate d s call e)
 same_event (Client r call) (Boot q others) is_a is_b e = absurd (no_boot q others r call (sym e))
 same_event (Client r call) (Arm q n) is_a is_b e = absurd (no_arm q n r call (sym e))
 same_event (Client r call) (Crash q n) is_a is_b e = absurd (no_crash q n r call (sym e))
 same_event (Client r call) (Reboot q) is_a is_b e = absurd (no_reboot q r call (sym e))
 same_event (Client r call) (Inspect q) is_a is_b e = absurd (no_inspect q r call (sym e))
-same_event (Survey r e) b is_a is_b same = absurd is_a
-same_event (Appoint e p members) b is_a is_b same = absurd is_a
-same_event (Activate e) b is_a is_b same = absurd is_a
-same_event a (Survey r e) is_a is_b same = absurd is_b
-same_event a (Appoint e p members) is_a is_b same = absurd is_b
-same_event a (Activate e) is_a is_b same = absurd is_b
+same_event (Client r call) (Survey q d) is_a is_b e = absurd (no_survey q d r call (sym e))
+same_event (Client r call) (Appoint d q members) is_a is_b e = absurd (no_appoint d q members r call (sym e))
+same_event (Client r call) (Activate d) is_a is_b e = absurd (no_activate d r call (sym e))
 same_event _ _ is_a is_b e = cc
 
 pub same_from_line : (line : List ℕ) (a b : Event) → Spells line a → Spells line b → a ≡ b

@@ -68,7 +68,10 @@ IsEpoch e = (e.loss < 2 ^ 32) × (e.number < 2 ^ 32)
 abbrev pub IsTxn : TxnId → Type 0
 IsTxn t = IsEpoch t.epoch × (t.n < 2 ^ 64)
 
--- a transaction before the first declared loss: no loss can be declared yet
+-- an epoch before the first declared loss, and a transaction of such an epoch: no loss can be declared yet
+abbrev pub IsBuiltEpoch : Epoch → Type 0
+IsBuiltEpoch e = IsEpoch e × (e.loss ≡ 0)
+
 abbrev pub IsBuiltTxn : TxnId → Type 0
 IsBuiltTxn t = IsTxn t × (t.epoch.loss ≡ 0)
 
@@ -84,8 +87,8 @@ IsBuiltCall (calls.Delete t name key) = IsBuiltTxn t × IsTrue (is_name name) ×
 IsBuiltCall (calls.Commit t) = IsBuiltTxn t
 IsBuiltCall (calls.Abort t) = IsBuiltTxn t
 
--- Replica 0 is the one there is, and alone in its configuration. A disk is armed for its first later call, or one behind
--- it. Surveys, appointments and activations are not built yet.
+-- Replica 0 is the one there is, and alone in each configuration; no epoch has a declared loss. A disk is armed for its
+-- first later call, or one behind it.
 abbrev pub IsBuilt : Event → Type 0
 IsBuilt (Boot p members) = (p ≡ 0) × (members ≡ 0 ∷ [])
 IsBuilt (Client r call) = (r ≡ 0) × IsBuiltCall call
@@ -93,9 +96,9 @@ IsBuilt (Arm r calls) = (r ≡ 0) × (1 ≤ calls) × (calls < 2 ^ 64)
 IsBuilt (Crash r pick) = (r ≡ 0) × (pick < 2 ^ 64)
 IsBuilt (Reboot r) = r ≡ 0
 IsBuilt (Inspect r) = r ≡ 0
-IsBuilt (Survey r e) = ⊥
-IsBuilt (Appoint e p members) = ⊥
-IsBuilt (Activate e) = ⊥
+IsBuilt (Survey r e) = (r ≡ 0) × IsBuiltEpoch e
+IsBuilt (Appoint e p members) = IsBuiltEpoch e × (p ≡ 0) × (members ≡ 0 ∷ [])
+IsBuilt (Activate e) = IsBuiltEpoch e
 
 -- ---- lines
 

@@ -4,9 +4,9 @@ ghost use Rattle.script_text.specs.declared.event.Event.TheVariants.{Client};
 ghost use Rattle.script_text.specs.Reading.{texts, IsSentence, AreReadAs};
 
 use crate::calls::call_of;
+use crate::changes::{activate, appoint, survey};
 use crate::event::Event;
-use crate::operands::built_replica;
-use crate::replicas::Replicas;
+use crate::operands::{built_members, built_replica};
 use crate::stops::{arm, crash, inspect, reboot};
 use rc_base::NoMemory;
 use std::alloc::Global;
@@ -31,22 +31,23 @@ fn event_of(alloc: Global, verb: &[u8], operands: &[&[u8]]) -> Result<Option<Eve
         verb if verb == b"crash".as_slice() => Ok(crash(operands)),
         verb if verb == b"reboot".as_slice() => Ok(reboot(operands)),
         verb if verb == b"inspect".as_slice() => Ok(inspect(operands)),
+        verb if verb == b"survey".as_slice() => survey(alloc, operands),
+        verb if verb == b"appoint".as_slice() => appoint(alloc, operands),
+        verb if verb == b"activate".as_slice() => activate(alloc, operands),
         _ => client(alloc, verb, operands),
     }
 }
 
-// `boot P MEMBERS`, from the words behind the first. The members are replica 0 alone so far.
+// `boot P MEMBERS`, from the words behind the first.
 fn boot(alloc: Global, operands: &[&[u8]]) -> Result<Option<Event>, NoMemory>
     ensures { IfOk result (AreReadAs (codes "boot" ∷ texts operands.now)) }
 {
     let [p, members] = operands else {
         return Ok(None);
     };
-    let (Some(p), Some(member)) = (built_replica(p), built_replica(members)) else {
+    let (Some(p), Some(members)) = (built_replica(p), built_members(alloc, members)?) else {
         return Ok(None);
     };
-    let mut members = Replicas::new(alloc);
-    members.push(member)?;
     Ok(Some(Event::Boot(p, members)))
 }
 

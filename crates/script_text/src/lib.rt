@@ -2,6 +2,7 @@
 #![tactic(auto)]
 
 mod calls;
+mod changes;
 mod event;
 mod forms;
 mod operands;

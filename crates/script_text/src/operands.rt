@@ -1,13 +1,15 @@
-ghost use Rattle.std.specs.Prelude.{◌≡◌, List, codes, decimal, IsTrue, IfOk, IfSome, IfNone, ℕ};
+ghost use Rattle.std.specs.Prelude.{◌≡◌, ◌∷◌, [], List, codes, decimal, IsTrue, IfOk, IfSome, IfNone, ℕ};
+ghost use Rattle.rc_base.specs.declared.ids.Epoch.{Epoch as EpochValue};
 ghost use Rattle.rc_base.specs.declared.ids.TxnId.{TxnId as TxnValue};
 ghost use Rattle.rc_base.specs.Names as names;
 ghost use Rattle.coll_model.specs.declared.op.Kind.TheVariants as kinds;
 ghost use Rattle.script_text.specs.Letters as letters;
-ghost use Rattle.script_text.specs.Sentence.{IsBuiltTxn, txn_text, kind_text};
+ghost use Rattle.script_text.specs.Sentence.{IsBuiltEpoch, IsBuiltTxn, epoch_text, txn_text, members_text, kind_text};
 
-use crate::words::{key_of, name_of, replica, txn};
+use crate::replicas::Replicas;
+use crate::words::{epoch, key_of, name_of, replica, txn};
 use coll_model::Kind;
-use rc_base::{Bytes, Name, NoMemory, ReplicaId, TxnId};
+use rc_base::{Bytes, Epoch, Name, NoMemory, ReplicaId, TxnId};
 use std::alloc::{AllocError, Global};
 
 // Replica 0: there is no other so far.
@@ -17,6 +19,31 @@ pub(crate) fn built_replica(word: &[u8]) -> Option<ReplicaId>
 {
     let r = replica(word)?;
     if r.number() == 0 { Some(r) } else { None }
+}
+
+// The members: replica 0 alone so far.
+pub(crate) fn built_members(alloc: Global, word: &[u8]) -> Result<Option<Replicas>, NoMemory>
+    ensures some { IfOk result (λ read. IfSome read (λ members.
+        (members ≡ 0 ∷ []) × (word.now ≡ members_text members))) }
+    ensures none { IfOk result (λ read. IfNone read (word.now ≡ members_text (0 ∷ []) → ⊥)) }
+{
+    let Some(member) = built_replica(word) else {
+        return Ok(None);
+    };
+    let mut members = Replicas::new(alloc);
+    members.push(member)?;
+    Ok(Some(members))
+}
+
+// An epoch before the first declared loss: there is no other so far.
+pub(crate) fn built_epoch(alloc: Global, word: &[u8]) -> Result<Option<Epoch>, AllocError>
+    ensures some { IfOk result (λ read. IfSome read (λ e. IsBuiltEpoch e × (word.now ≡ epoch_text e))) }
+    ensures none { IfOk result (λ read. IfNone read ((e : EpochValue) → IsBuiltEpoch e → word.now ≡ epoch_text e → ⊥)) }
+{
+    match epoch(alloc, word)? {
+        Some(e) if e.loss == 0 => Ok(Some(e)),
+        _ => Ok(None),
+    }
 }
 
 // A transaction of an epoch before the first declared loss: there is no other so far.
