@@ -297,7 +297,7 @@ kept_noted m k t call logs = noting (txn_of m t) refl
 abbrev ended : ℕ → Txn → Txn
 ended r x = cond (eqb x.home r) (record x { live = false }) x
 
-lookup_ended : (r : ℕ) (txns : List (TxnId × Txn)) (t : TxnId) → lookup (is_txn t) (ended_at r txns) ≡ option_map (ended r) (lookup (is_txn t) txns)
+pub lookup_ended : (r : ℕ) (txns : List (TxnId × Txn)) (t : TxnId) → lookup (is_txn t) (ended_at r txns) ≡ option_map (ended r) (lookup (is_txn t) txns)
 lookup_ended r [] t = refl
 lookup_ended r (entry ∷ txns) t =
     elim (cases_Bool (is_txn t entry.0)) [
