@@ -65,7 +65,7 @@ impl Front {
         ensures kept { OnOk result (AreAlike self.new (spec.called self.old state.now call.now)) }
         ensures over { OnOk result (IsOver self.new state.now) }
     {
-        match txn_of(call) {
+        match txn_named(call) {
             None => self.begin(),
             Some(txn) => self.asked(state, txn, call),
         }
@@ -149,8 +149,8 @@ impl Front {
     }
 }
 
-// The transaction that a call names.
-fn txn_of(call: &Call) -> Option<TxnId>
+/// The transaction that a call names, none for a begin.
+pub fn txn_named(call: &Call) -> Option<TxnId>
     ensures { result ≡ answers.txn_named call.now }
 {
     match call {

@@ -5,7 +5,7 @@ mod asking;
 mod front;
 mod going;
 
-pub use front::Front;
+pub use front::{Front, txn_named};
 pub use going::Going;
 
 #[cfg(test)]

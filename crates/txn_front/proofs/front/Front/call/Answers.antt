@@ -12,7 +12,7 @@ returns-in-None c =
     let state = c.args.state.now in
     let call = c.args.call.now in
     let g = c.begin.new.self in
-    let begins : txn_named call ≡ None = sym c.txn_of.ensures ∙ c.in-None.is in
+    let begins : txn_named call ≡ None = sym c.txn_named.ensures ∙ c.in-None.is in
     let same : g ≡ begun f → AreAlike g (called f state call) = λ e. AreAlike-from_same g (called f state call) (e ∙ sym (called_begin f state call begins)) in
     record {
       told = IfOk-weaker c.begin.result (λ reply. reply ≡ Some (plain (says.Txn (txn_at f (f.begins + 1))))) (λ reply. reply ≡ told f state call)
