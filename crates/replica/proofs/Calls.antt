@@ -1,8 +1,7 @@
 -- A client's call: the log goes on with its records, and the replica agrees with the log behind them.
-use Rattle.std.proofs.Common.{◌≡◌, ℕ, zero, suc, ◌+◌, ◌≤◌, ◌==◌, Bool, true, false, cond, List, [], ◌∷◌, ◌++◌, length, map, flat_map, Option, Some, None, refl, sym, ap, ap₂, subst, ◌∙◌, ◌⊎◌, inl, inr, arith}
+use Rattle.std.proofs.Common.{◌≡◌, ℕ, suc, ◌+◌, ◌≤◌, ◌==◌, Bool, true, false, cond, List, [], ◌∷◌, ◌++◌, length, flat_map, Option, Some, None, refl, sym, ap, subst, ◌∙◌, ◌⊎◌, inl, inr, arith}
 use Rattle.std.specs.Option.{option_map_or, option_and_then}
 use Rattle.std.proofs.lemmas.List.{append-nil}
-use Rattle.std.proofs.lemmas.Bool.{false≢true}
 use Rattle.std.proofs.lemmas.Bool.Decides.{nat_tests}
 use Rattle.std.proofs.lemmas.Option.{none-some}
 use Rattle.std.specs.Ordering.{nat_cmp}
@@ -21,7 +20,7 @@ use Rattle.order_machine.specs.declared.reply.Reply.{Reply}
 use Rattle.order_machine.specs.Locking.{locks_at, taken}
 use Rattle.order_machine.specs.Answers.{plain, txn_named, live_reply}
 use Rattle.log_records.specs.declared.record.Record.{Record}
-use Rattle.log_records.specs.declared.record.Record.TheVariants.{Begin, Operation, End, Barrier, EpochStart}
+use Rattle.log_records.specs.declared.record.Record.TheVariants.{Begin, Operation, End}
 use Rattle.log_records.specs.declared.record.Physical.{Physical}
 use Rattle.log_records.specs.declared.record.Physical.TheVariants.{Logical}
 use Rattle.txn_table.specs.declared.committed.Committed.{Committed}
@@ -31,15 +30,15 @@ use Rattle.txn_front.specs.Front as front
 use Rattle.txn_front.specs.Front.{Fronted, Going, IsOver, txn_at, numbered, going_of, operated, with_going, begun}
 use Rattle.log_store.specs.declared.kept.Kept.{Kept}
 use Rattle.log_store.specs.Epochs.{later}
-use Rattle.log_store.specs.Growth.{MayCome, after_one, after, GoesOn}
+use Rattle.log_store.specs.Growth.{after_one, after, GoesOn}
 use Rattle.log_store.specs.Log.{Items, known_in, commits_in}
 use Rattle.replica.specs.declared.step.StepEvent.TheVariants as steps
 use Rattle.replica.specs.Open.{Open, IsKnownAs, IsPrimary, HasRole, AgreesWith}
-use Rattle.replica.specs.Step.{is_active, reply, begin_due, prev_of, logged_op, logged_commit, logged_abort, logged_call, logged_by, going_in, placed, behind, lengthened, noted, answered, called, committed_by}
+use Rattle.replica.specs.Step.{is_active, reply, logged_op, logged_commit, logged_abort, logged_call, logged_by, going_in, placed, behind, lengthened, noted, answered, called, committed_by}
 use Rattle.replica.proofs.OneMore.{later_twice}
-use Rattle.replica.proofs.OneRecord.{active_primary, item, longer, begun_at, operated_at, commit, ended_so, Grows, AreKnown, known_put, known_still, begin_grows, operation_grows, end_grows}
+use Rattle.replica.proofs.OneRecord.{active_primary, item, longer, begun_at, operated_at, commit, Grows, AreKnown, known_put, known_still, begin_grows, operation_grows, end_grows}
 use Rattle.txn_front.proofs.Fronts.{IsOver-called, IsOver-logged, IsOver-committed, IsOver-aborted}
-use Rattle.replica.proofs.Puts.{Puts, going_is, going_put, puts_written, puts_granted, puts_then, puts_over, puts_logged, puts_ended, same_or_other}
+use Rattle.replica.proofs.Puts.{Puts, going_is, going_put, puts_written, puts_granted, puts_then, puts_over, puts_logged, puts_ended}
 
 -- ---- a step
 

@@ -1,8 +1,7 @@
 -- What a step makes of the log and of the replica. Cited by the crates above.
-use Rattle.std.proofs.Common.{◌≡◌, ℕ, zero, suc, ◌+◌, ◌≤◌, ◌==◌, max, Bool, true, false, cond, List, [], ◌∷◌, ◌++◌, length, take, drop, map, Option, Some, None, refl, sym, ap, subst, ◌∙◌, append_assoc, arith}
+use Rattle.std.proofs.Common.{◌≡◌, ℕ, zero, suc, ◌+◌, ◌≤◌, ◌==◌, Bool, true, false, cond, List, [], ◌∷◌, ◌++◌, length, take, drop, map, Option, Some, None, refl, sym, ap, subst, ◌∙◌, append_assoc, arith}
 use Rattle.std.specs.Option.{option_map_or, option_and_then}
 use Rattle.std.proofs.lemmas.List.{append-nil, length-append, take-append-le, take-append-drop}
-use Rattle.std.proofs.lemmas.Bool.{false≢true}
 use Rattle.std.proofs.lemmas.Bool.Decides.{nat_tests}
 use Rattle.std.proofs.lemmas.Option.{none-some}
 use Rattle.std.specs.Ordering.{nat_cmp}
@@ -22,7 +21,6 @@ use Rattle.order_machine.specs.Locking.{locks_at, taken}
 use Rattle.order_machine.specs.Answers.{txn_named, live_reply}
 use Rattle.log_records.specs.declared.record.Record.{Record}
 use Rattle.log_records.specs.declared.record.Record.TheVariants.{Begin, Operation, End, Barrier, EpochStart}
-use Rattle.log_records.specs.declared.record.Physical.{Physical}
 use Rattle.log_records.specs.declared.record.Physical.TheVariants.{Logical, Fence}
 use Rattle.txn_table.specs.declared.committed.Committed.{Committed}
 use Rattle.txn_front.specs.Front as front
@@ -35,7 +33,7 @@ use Rattle.replica.specs.declared.role.Role.TheVariants.{Other}
 use Rattle.replica.specs.declared.step.StepEvent.{StepEvent}
 use Rattle.replica.specs.declared.step.StepEvent.TheVariants as steps
 use Rattle.replica.specs.Open.{Open, stable_told, stable_in, shown_in, AgreesWith}
-use Rattle.replica.specs.Step.{is_active, reply, begin_due, prev_of, logged_op, logged_abort, logged_call, logged_by, logged, going_in, epoch_in, placed, fences, block, behind, lengthened, noted, answered, surveyed, stepped, committed_by, MayStep}
+use Rattle.replica.specs.Step.{is_active, reply, begin_due, prev_of, logged_op, logged_call, logged_by, logged, going_in, epoch_in, placed, block, behind, lengthened, noted, answered, surveyed, stepped, committed_by, MayStep}
 use Rattle.replica.proofs.OneMore.{stable_push, commits_more, commits_few}
 use Rattle.replica.proofs.OneRecord.{barrier_grows, epoch_starts}
 use Rattle.txn_front.proofs.Fronts.{IsOver-nothing}

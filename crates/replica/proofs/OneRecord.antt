@@ -1,6 +1,6 @@
 -- One more record at an active primary: the log goes on with it, and the replica agrees with the longer log.
-use Rattle.std.proofs.Common.{◌≡◌, ◌≢◌, ℕ, ◌+◌, ◌≤◌, ◌==◌, ◌&&◌, not, Bool, true, false, cond, List, [], ◌∷◌, ◌++◌, length, take, map, flat_map, Option, Some, None, refl, sym, ap, ap₂, subst, ◌∙◌, ◌⊎◌, inl, inr, arith}
-use Rattle.std.specs.Prelude.{IsTrue, fold, nat_lt}
+use Rattle.std.proofs.Common.{◌≡◌, ◌≢◌, ℕ, ◌+◌, ◌≤◌, ◌==◌, ◌&&◌, not, Bool, true, false, cond, List, [], ◌∷◌, ◌++◌, length, map, flat_map, Option, Some, None, refl, sym, ap, ap₂, subst, ◌∙◌, ◌⊎◌, inl, inr, arith}
+use Rattle.std.specs.Prelude.{IsTrue, nat_lt}
 use Rattle.std.specs.Option.{option_map}
 use Rattle.std.proofs.lemmas.List.{append-nil, length-append, take_all}
 use Rattle.std.proofs.lemmas.List.Sums.{fold-append}
@@ -22,22 +22,22 @@ use Rattle.log_records.specs.declared.record.Physical.TheVariants.{Logical}
 use Rattle.txn_table.specs.declared.committed.Committed.{Committed}
 use Rattle.txn_table.specs.declared.known.Ending.{Ending}
 use Rattle.txn_table.specs.declared.known.Known.{Known}
-use Rattle.txn_table.specs.Commits.{Logged, with_txn, fault_in, link_fault, begin_fault, commit_in, commit_of, one_or_none, is_pending, last_of, last_from, last_position, ops_of, nowhere}
+use Rattle.txn_table.specs.Commits.{with_txn, fault_in, link_fault, begin_fault, commit_in, commit_of, one_or_none, is_pending, last_of, last_from, last_position, ops_of}
 use Rattle.txn_table.specs.Tables.{followed, with_records}
 use Rattle.txn_table.proofs.Records.{barrier_changes_none, operation_of_own, operation_of_other, end_of_other, none_if_open}
-use Rattle.txn_front.specs.Front.{Fronted, Going, IsOver, txn_at, numbered, going_of, nothing}
+use Rattle.txn_front.specs.Front.{Fronted, Going, IsOver, txn_at, numbered, going_of}
 use Rattle.log_store.specs.declared.kept.Kept.{Kept}
 use Rattle.log_store.specs.Epochs.{later}
 use Rattle.log_store.specs.Growth.{MayCome, after_one}
-use Rattle.log_store.specs.Log.{Items, may_follow, may_stand, MayStandBehind, last_epoch, known_in, commits_in}
+use Rattle.log_store.specs.Log.{Items, may_follow, may_stand, last_epoch, known_in, commits_in}
 use Rattle.replica.specs.declared.role.Role.{Role}
 use Rattle.replica.specs.declared.role.Role.TheVariants.{Other, Primary}
-use Rattle.replica.specs.Open.{Open, stable_told, stable_in, commits_to, state_of, IsKnownAs, IsPrimary, HasRole, AgreesWith}
+use Rattle.replica.specs.Open.{Open, stable_told, commits_to, state_of, IsKnownAs, IsPrimary, HasRole, AgreesWith}
 use Rattle.replica.specs.Step.{is_active, behind, lengthened, started}
 use Rattle.replica.proofs.OneMore.{next, known_push, commits_in_push, last_push, stable_push, known_is, with_map, with_begin, known_before, known_or_new, fresh, others_stay}
 use Rattle.order_machine.proofs.ProtectedStates.{IsOrdered-folded}
 use Rattle.txn_front.proofs.Fronts.{IsOver-nothing}
-use Rattle.replica.proofs.Puts.{Puts, IsGoing, going_is, same_or_other}
+use Rattle.replica.proofs.Puts.{Puts, going_is, same_or_other}
 
 -- ---- an active primary
 

@@ -1,16 +1,15 @@
 -- A log that is read when it is opened.
-use Rattle.std.proofs.Common.{◌≡◌, ℕ, zero, suc, ◌+◌, ◌<◌, ◌≤◌, max, Bool, true, false, cond, ◌&&◌, List, [], ◌∷◌, ◌++◌, length, take, drop, get_or, map, flat_map, Option, Some, None, refl, sym, ap, ap₂, subst, ◌∙◌, ◌⊎◌, inl, inr, append_assoc, arith, ltb}
+use Rattle.std.proofs.Common.{◌≡◌, ℕ, zero, suc, ◌+◌, ◌<◌, ◌≤◌, Bool, true, false, cond, List, [], ◌∷◌, ◌++◌, length, take, get_or, map, flat_map, Option, Some, None, refl, sym, ap, ap₂, subst, ◌∙◌, inl, inr, append_assoc, arith}
 use Rattle.std.specs.Prelude.{IsTrue, nat_lt}
-use Rattle.std.proofs.lemmas.List.{append-nil, append_cancel_left, length-append, length-take, take-append-le, take_all, take_more}
-use Rattle.std.proofs.lemmas.Bool.{false≢true, and_parts, cases_lt, lt-ltb, le-ltb}
+use Rattle.std.proofs.lemmas.List.{append-nil, append_cancel_left, length-append, length-take, take-append-le, take_more}
+use Rattle.std.proofs.lemmas.Bool.{and_parts, cases_lt, lt-ltb, le-ltb}
 use Rattle.std.proofs.lemmas.Bool.Decides.{nat_tests}
 use Rattle.std.proofs.lemmas.Option.{none-some}
 use Rattle.rc_base.specs.declared.ids.Epoch.{Epoch}
 use Rattle.rc_base.specs.declared.ids.Lsn.{Lsn}
 use Rattle.rc_base.specs.declared.ids.TxnId.{TxnId}
-use Rattle.rc_base.specs.Ids.{epoch_lt, epoch_le, is_epoch, is_txn, no_epoch}
+use Rattle.rc_base.specs.Ids.{epoch_lt, epoch_le, is_epoch, no_epoch}
 use Rattle.rc_base.proofs.SameIds.{is_epoch-true, is_txn-true}
-use Rattle.coll_model.specs.declared.op.Op.{Op}
 use Rattle.coll_model.specs.Effect.{State, folded}
 use Rattle.log_records.specs.declared.record.Record.{Record}
 use Rattle.log_records.specs.declared.record.Record.TheVariants.{Begin, Operation, End, Barrier, EpochStart}
@@ -18,7 +17,7 @@ use Rattle.txn_table.specs.declared.committed.Committed.{Committed}
 use Rattle.txn_table.specs.declared.known.Known.{Known}
 use Rattle.txn_table.specs.Commits.{with_txn, fault_in, begin_fault, last_of, commit_in, one_or_none, nowhere}
 use Rattle.txn_table.specs.Tables.{followed, with_records}
-use Rattle.log_store.specs.Log.{Items, last_from, last_epoch, may_follow, may_stand, known_in, commits_in, MayStandBehind, IsLogBehind, IsLog}
+use Rattle.log_store.specs.Log.{Items, last_from, last_epoch, known_in, commits_in, MayStandBehind, IsLogBehind, IsLog}
 use Rattle.replica.specs.declared.mounting.Shown.{Shown}
 use Rattle.log_store.specs.declared.durable.Durable.{Durable}
 use Rattle.log_store.specs.Store.{Store, kept_as}

@@ -1,23 +1,20 @@
 -- The block of a step is short.
-use Rattle.std.proofs.Common.{◌≡◌, ℕ, zero, suc, ◌+◌, ◌*◌, ◌≤◌, Bool, true, false, cond, List, [], ◌∷◌, ◌++◌, length, refl, sym, ap, subst, ◌∙◌, arith}
+use Rattle.std.proofs.Common.{◌≡◌, ℕ, ◌+◌, ◌*◌, ◌≤◌, Bool, true, false, cond, List, [], ◌∷◌, ◌++◌, length, refl, arith}
 use Rattle.std.specs.Prelude.{IsTrue, nat_le}
-use Rattle.std.specs.Int.{w8, w32, w64, to_be_bytes}
-use Rattle.std.specs.List.{list_all}
+use Rattle.std.specs.Int.{w8, w32, to_be_bytes}
 use Rattle.std.proofs.lemmas.List.{length-append}
 use Rattle.std.proofs.lemmas.Bool.{and_parts}
 use Rattle.std.proofs.lemmas.Bool.Decides.{nat_tests}
 use Rattle.rc_base.specs.declared.ids.Epoch.{Epoch}
 use Rattle.rc_base.specs.declared.ids.Lsn.{Lsn}
-use Rattle.rc_base.specs.declared.ids.TxnId.{TxnId}
 use Rattle.rc_base.specs.Ids.{epoch_lt}
-use Rattle.rc_base.specs.Names.{is_name, is_name_letter}
+use Rattle.rc_base.specs.Names.{is_name}
 use Rattle.coll_model.specs.declared.op.Kind.{Kind}
 use Rattle.coll_model.specs.declared.op.Kind.TheVariants as kinds
 use Rattle.coll_model.specs.declared.op.Op.{Op}
 use Rattle.coll_model.specs.declared.op.Op.TheVariants.{Make, Unmake, Put, Del, Push, Pop}
 use Rattle.log_records.specs.declared.record.Record.{Record}
 use Rattle.log_records.specs.declared.record.Record.TheVariants.{Begin, Operation, End, Barrier, EpochStart}
-use Rattle.log_records.specs.declared.record.Physical.{Physical}
 use Rattle.log_records.specs.declared.record.Physical.TheVariants.{Logical, Fence}
 use Rattle.log_records.specs.Spelling as spelling
 use Rattle.log_records.specs.Spelling.{is_key, is_value, physical, joined, OpFits, LogicalFits}
@@ -26,7 +23,7 @@ use Rattle.replica.specs.declared.step.StepEvent.{StepEvent}
 use Rattle.replica.specs.declared.step.StepEvent.TheVariants as steps
 use Rattle.replica.specs.Logging.{AllFit}
 use Rattle.replica.specs.Open.{Open}
-use Rattle.replica.specs.Step.{logged, logged_by, placed, block, MayStep}
+use Rattle.replica.specs.Step.{logged_by, placed, block, MayStep}
 use Rattle.replica.proofs.Lengthened.{logged_few}
 use Rattle.replica.proofs.Told.{logged_fits}
 

@@ -1,5 +1,5 @@
 -- A step and the parts of it.
-use Rattle.std.proofs.Common.{◌≡◌, ℕ, zero, suc, ◌+◌, ◌≤◌, Bool, true, false, cond, List, [], ◌∷◌, ◌++◌, length, take, Option, Some, None, refl, sym, ap, subst, ◌∙◌, arith}
+use Rattle.std.proofs.Common.{◌≡◌, ℕ, zero, suc, ◌+◌, ◌≤◌, Bool, true, false, cond, List, ◌++◌, length, Option, Some, None, refl, sym, ap, subst, ◌∙◌, arith}
 use Rattle.std.proofs.lemmas.List.{length-append}
 use Rattle.std.specs.Option.{option_map_or}
 use Rattle.rc_base.specs.declared.ids.Lsn.{Lsn}
@@ -16,14 +16,14 @@ use Rattle.txn_front.specs.Front as front
 use Rattle.txn_front.specs.Front.{Fronted, Going, AreAlike, going_of, numbered, txn_at}
 use Rattle.log_store.specs.declared.kept.Kept.{Kept}
 use Rattle.log_store.specs.Store.{Store}
-use Rattle.log_store.specs.Log.{Items, commits_in, known_in}
+use Rattle.log_store.specs.Log.{Items}
 use Rattle.replica.specs.declared.role.Role.{Role}
 use Rattle.replica.specs.declared.role.Role.TheVariants.{Other, Primary}
 use Rattle.replica.specs.declared.step.StepEvent.{StepEvent}
 use Rattle.replica.specs.declared.step.StepEvent.TheVariants as steps
-use Rattle.replica.specs.Logging.{asked, finished, changed}
-use Rattle.replica.specs.Open.{Open, AreSame, commits_to, IsPrimary, HasRole, AgreesWith}
-use Rattle.replica.specs.Step.{is_active, answered, logged, logged_by, epoch_in, fences, placed, block, stepped, lengthened, behind, noted, surveyed}
+use Rattle.replica.specs.Logging.{asked, changed}
+use Rattle.replica.specs.Open.{Open, AreSame, commits_to, HasRole, AgreesWith}
+use Rattle.replica.specs.Step.{is_active, answered, finished, logged, logged_by, epoch_in, fences, placed, block, stepped, lengthened, behind, noted}
 use Rattle.replica.proofs.OneMore.{commits_few}
 use Rattle.replica.proofs.OneRecord.{known_still}
 use Rattle.txn_front.proofs.Fronts.{IsOver-alike, AreAlike-itself, AreAlike-trans, logged-alike, ended-alike}
@@ -109,9 +109,9 @@ same_numbers zero r log f a b h = record { same = refl; front = h }
 same_numbers (suc n) r log f a b h = record { same = refl; front = h }
 
 item_same : (count : ℕ) (r : Open) (log : Store) (f : Fronted) (call : Call) → AreAlike f (front.called r.front r.contents call)
-    → (finished count call (mid log f r) ≡ record (lengthened count r.epoch (mid log f r)) { front = noted count call (behind r.last count) f })
+    → (finished count call f (mid log f r) ≡ record (lengthened count r.epoch (mid log f r)) { front = noted count call (behind r.last count) f })
     → (answered count call r ≡ record (lengthened count r.epoch r) { front = noted count call (behind r.last count) (front.called r.front r.contents call) })
-    → AreSame (finished count call (mid log f r)) (record (answered count call r) { log = log })
+    → AreSame (finished count call f (mid log f r)) (record (answered count call r) { log = log })
 item_same count r log f call h a_is b_is =
     let a : Fronted = noted count call (behind r.last count) f in
     let b : Fronted = noted count call (behind r.last count) (front.called r.front r.contents call) in
@@ -119,7 +119,7 @@ item_same count r log f call h a_is b_is =
     (subst (λ (o : Open). AreSame (record (lengthened count r.epoch (mid log f r)) { front = a }) (record o { log = log })) (sym b_is)
     (same_numbers count r log f a b (noted_alike count call (behind r.last count) f (front.called r.front r.contents call) h)))
 
-commit_same : (count : ℕ) (r : Open) (log : Store) (f : Fronted) (t : TxnId) → AreAlike f r.front → AreSame (finished count (calls.Commit t) (mid log f r)) (record (answered count (calls.Commit t) r) { log = log })
+commit_same : (count : ℕ) (r : Open) (log : Store) (f : Fronted) (t : TxnId) → AreAlike f r.front → AreSame (finished count (calls.Commit t) f (mid log f r)) (record (answered count (calls.Commit t) r) { log = log })
 commit_same count r log f t h =
     subst (λ (o : Option Going). AreSame (option_map_or (λ going. record (lengthened count r.epoch (mid log f r)) { shown = r.shown + 1; contents = folded r.contents going.ops; front = front.ended f t }) o (mid log f r)) (record (answered count (calls.Commit t) r) { log = log }))
     (sym (alike_going f r.front t h)) (by count (going_of r.front t))
@@ -131,7 +131,7 @@ commit_same count r log f t h =
     by zero (Some going) = record { same = refl; front = ended-alike f r.front t h }
     by (suc n) (Some going) = record { same = refl; front = ended-alike f r.front t h }
 
-finished_same : (count : ℕ) (r : Open) (log : Store) (f : Fronted) (call : Call) → AreAlike f (front.called r.front r.contents call) → AreSame (finished count call (mid log f r)) (record (answered count call r) { log = log })
+finished_same : (count : ℕ) (r : Open) (log : Store) (f : Fronted) (call : Call) → AreAlike f (front.called r.front r.contents call) → AreSame (finished count call f (mid log f r)) (record (answered count call r) { log = log })
 finished_same count r log f calls.Begin h = item_same count r log f calls.Begin h refl refl
 finished_same count r log f (calls.Make t name kind) h = item_same count r log f (calls.Make t name kind) h refl refl
 finished_same count r log f (calls.Get t name key) h = item_same count r log f (calls.Get t name key) h refl refl
@@ -145,7 +145,7 @@ finished_same count r log f (calls.Abort t) h = same_numbers count r log f (fron
 changed_same : (r : Open) (log : Store) (f : Fronted) (event : StepEvent) → AreAlike f (asked r event) → AreSame (changed (length (logged r event)) (mid log f r) event) (record (stepped r event) { log = log })
 changed_same r log f (steps.Client call) h = by (is_active r.role) h
   where
-    by : (b : Bool) → AreAlike f (cond b (front.called r.front r.contents call) r.front) → AreSame (cond b (finished (length (logged_by r call)) call (mid log f r)) (mid log f r)) (record (cond b (answered (length (logged_by r call)) call r) r) { log = log })
+    by : (b : Bool) → AreAlike f (cond b (front.called r.front r.contents call) r.front) → AreSame (cond b (finished (length (logged_by r call)) call f (mid log f r)) (mid log f r)) (record (cond b (answered (length (logged_by r call)) call r) r) { log = log })
     by true h = finished_same (length (logged_by r call)) r log f call h
     by false h = record { same = refl; front = h }
 changed_same r log f (steps.Survey epoch) h = by (epoch_lt epoch r.fence)

@@ -1,9 +1,8 @@
 -- What a step tells, and the words of its records.
-use Rattle.std.proofs.Common.{◌≡◌, ℕ, ◌+◌, ◌==◌, Bool, true, false, cond, List, [], ◌∷◌, ◌++◌, length, Option, Some, None, refl, sym, ap, subst, ◌∙◌}
+use Rattle.std.proofs.Common.{◌≡◌, ℕ, ◌+◌, ◌==◌, Bool, true, false, cond, List, [], ◌∷◌, ◌++◌, Option, Some, None, refl, sym, ap, subst, ◌∙◌}
 use Rattle.std.specs.Prelude.{IsTrue}
 use Rattle.std.specs.Option.{option_map, option_map_or, option_and_then}
 use Rattle.std.proofs.lemmas.Option.{none-some}
-use Rattle.rc_base.specs.declared.ids.Epoch.{Epoch}
 use Rattle.rc_base.specs.declared.ids.Lsn.{Lsn}
 use Rattle.rc_base.specs.declared.ids.TxnId.{TxnId}
 use Rattle.rc_base.specs.Ids.{epoch_lt, no_epoch}
@@ -19,7 +18,7 @@ use Rattle.order_machine.specs.declared.reply.Reply.{Reply}
 use Rattle.order_machine.specs.Locking.{locks_at, against}
 use Rattle.order_machine.specs.Answers.{plain, txn_named, make_reply, get_reply, set_reply, add_reply, delete_reply, added, deleted, reply_to, locked_or, live_reply}
 use Rattle.log_records.specs.declared.record.Record.{Record}
-use Rattle.log_records.specs.declared.record.Record.TheVariants.{Begin, Operation, End, Barrier, EpochStart}
+use Rattle.log_records.specs.declared.record.Record.TheVariants.{Begin, End}
 use Rattle.rc_base.specs.Names.{is_name}
 use Rattle.log_records.specs.Spelling.{OpFits, is_key, is_value}
 use Rattle.log_store.specs.Epochs.{later}
@@ -32,7 +31,7 @@ use Rattle.replica.specs.declared.step.StepEvent.TheVariants as steps
 use Rattle.replica.specs.declared.step.Outcome.{Outcome}
 use Rattle.replica.specs.Logging.{IsReplyTo, AllFit, asked, last_named, logged_to, answer_of, shown_one, told_commit, told_then}
 use Rattle.replica.specs.Open.{Open}
-use Rattle.replica.specs.Step.{is_active, reply, going_in, logged_op, logged_call, logged_by, logged, quiet, shown_commits, committed_at, committed_by, survey_answer, surveyed, outcome, CallFits, MayStep}
+use Rattle.replica.specs.Step.{is_active, reply, going_in, logged_op, logged_call, logged_by, logged, quiet, shown_commits, committed_at, survey_answer, outcome, CallFits, MayStep}
 use Rattle.replica.proofs.Calls.{IsLive, reply_live, replies_live, logs_live, logs_none}
 use Rattle.replica.proofs.Lengthened.{by_call}
 use Rattle.replica.proofs.Puts.{alike_going}

@@ -1,3 +1,4 @@
+pub mod Examples
 pub mod Logging
 pub mod Open
 pub mod Reading

@@ -1,10 +1,9 @@
 -- The parts of a step: first its call is answered, then its records are logged, and then the rest changes.
-use Rattle.std.specs.Prelude.{◌≡◌, ℕ, ◌+◌, Bool, true, List, [], ◌∷◌, Option, Some, None, option_map, option_and_then, if◌then◌else◌}
+use Rattle.std.specs.Prelude.{◌≡◌, ℕ, ◌+◌, true, List, [], ◌∷◌, Option, None, option_map, option_and_then, if◌then◌else◌}
 use Rattle.std.specs.Option.{option_map_or}
 use Rattle.rc_base.specs.declared.ids.Lsn.{Lsn}
 use Rattle.rc_base.specs.declared.ids.TxnId.{TxnId}
 use Rattle.coll_model.specs.declared.op.Op.{Op}
-use Rattle.coll_model.specs.Effect.{folded}
 use Rattle.script_text.specs.declared.event.Call.{Call}
 use Rattle.script_text.specs.declared.event.Call.TheVariants as calls
 use Rattle.order_machine.specs.declared.observation.Observation.{Observation}
@@ -18,7 +17,7 @@ use Rattle.replica.specs.declared.step.StepEvent.{StepEvent}
 use Rattle.replica.specs.declared.step.StepEvent.TheVariants as steps
 use Rattle.replica.specs.declared.step.Outcome.{Outcome}
 use Rattle.replica.specs.Open.{Open}
-use Rattle.replica.specs.Step.{is_active, reply, lengthened, behind, noted, stepped, quiet, outcome}
+use Rattle.replica.specs.Step.{is_active, reply, finished, stepped, quiet, outcome}
 
 -- ---- the answer
 
@@ -49,21 +48,9 @@ AllFit (body ∷ bodies) = LogicalFits body × AllFit bodies
 
 -- ---- behind the records
 
--- so many records of a commit
-abbrev pub committed : ℕ → TxnId → Open → Open
-committed count t r =
-    option_map_or (λ going. record (lengthened count r.epoch r) { shown = r.shown + 1; contents = folded r.contents going.ops; front = front.ended r.front t })
-    (going_of r.front t) r
-
--- what an active primary keeps behind so many records of a call that it has answered
-abbrev pub finished : ℕ → Call → Open → Open
-finished count (calls.Commit t) r = committed count t r
-finished count (calls.Abort t) r = record (lengthened count r.epoch r) { front = front.ended r.front t }
-finished count call r = record (lengthened count r.epoch r) { front = noted count call (behind r.last count) r.front }
-
 -- what a replica keeps behind so many records of a step, whose call it has answered
 abbrev pub changed : ℕ → Open → StepEvent → Open
-changed count r (steps.Client call) = if is_active r.role then finished count call r else r
+changed count r (steps.Client call) = if is_active r.role then finished count call r.front r else r
 changed count r event = stepped r event
 
 abbrev pub answer_of : Option Reply → Option Observation

@@ -117,13 +117,21 @@ abbrev pub noted : ℕ → Call → Lsn → Fronted → Fronted
 noted zero call lsn f = f
 noted (suc n) call lsn f = option_map_or (λ t. front.logged f t lsn) (txn_named call) f
 
--- A call that logged so many records. A commit shows what the transaction did.
-abbrev pub answered : ℕ → Call → Open → Open
-answered count (calls.Commit t) r =
+-- so many records of a commit: what the transaction did is shown
+abbrev pub committed : ℕ → TxnId → Open → Open
+committed count t r =
     option_map_or (λ going. record (lengthened count r.epoch r) { shown = r.shown + 1; contents = folded r.contents going.ops; front = front.ended r.front t })
     (going_of r.front t) r
-answered count (calls.Abort t) r = record (lengthened count r.epoch r) { front = front.ended r.front t }
-answered count call r = record (lengthened count r.epoch r) { front = noted count call (behind r.last count) (front.called r.front r.contents call) }
+
+-- so many records of a call, behind whose answer this goes on
+abbrev pub finished : ℕ → Call → Fronted → Open → Open
+finished count (calls.Commit t) f r = committed count t r
+finished count (calls.Abort t) f r = record (lengthened count r.epoch r) { front = front.ended r.front t }
+finished count call f r = record (lengthened count r.epoch r) { front = noted count call (behind r.last count) f }
+
+-- a call that logged so many records
+abbrev pub answered : ℕ → Call → Open → Open
+answered count call r = finished count call (front.called r.front r.contents call) r
 
 abbrev pub called : Open → Call → Open
 called r call = if is_active r.role then answered (length (logged_by r call)) call r else r

@@ -4,7 +4,6 @@ ghost use Rattle.std.specs.Option.{option_copied};
 ghost use Rattle.rc_base.specs.Counts.{Counted};
 ghost use Rattle.disk_model.specs.Disk.{Follows};
 ghost use Rattle.barrier_group.specs.Group.{spelled};
-ghost use Rattle.order_machine.specs.Answers as answers;
 ghost use Rattle.txn_front.specs.Front as fronts;
 ghost use Rattle.txn_front.specs.Front.{AreAlike, IsOver};
 ghost use Rattle.log_store.specs.declared.kept.Kept.{Kept};
@@ -35,25 +34,8 @@ use order_machine::{Observation, Reply};
 use rc_base::{Epoch, Lsn, NoMemory, TxnId};
 use script_text::Call;
 use std::mem;
-use txn_front::Front;
+use txn_front::{Front, txn_named};
 use txn_table::Committed;
-
-// The transaction that a call names.
-fn txn_named(call: &Call) -> Option<TxnId>
-    ensures { result ≡ answers.txn_named call.now }
-{
-    match call {
-        Call::Begin => None,
-        Call::Make(txn, ..)
-        | Call::Get(txn, ..)
-        | Call::GetForUpdate(txn, ..)
-        | Call::Set(txn, ..)
-        | Call::Add(txn, ..)
-        | Call::Delete(txn, ..)
-        | Call::Commit(txn)
-        | Call::Abort(txn) => Some(*txn),
-    }
-}
 
 impl Replica {
     // Whether it is an active primary.
@@ -365,7 +347,7 @@ impl Replica {
     ) -> Result<Outcome, NoMemory>
         requires room { self.old.last.0 + count < 2 ^ 64 }
         requires shown { self.old.shown + 1 < 2 ^ 64 }
-        ensures kept { OnOk result (AreSame self.new (parts.committed count txn self.old)) }
+        ensures kept { OnOk result (AreSame self.new (spec.committed count txn self.old)) }
         ensures told { IfOk result (λ told. told ≡ parts.told_commit self.old txn answer) }
     {
         let Some(ops) = self.front.end(txn) else {

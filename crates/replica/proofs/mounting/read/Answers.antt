@@ -1,4 +1,4 @@
-use Rattle.std.proofs.Common.{◌≡◌, ◌∙◌, sym, ap, subst, ◌+◌, ◌<◌, take, get_or, length, arith, refl, None, Option, List}
+use Rattle.std.proofs.Common.{◌≡◌, ◌∙◌, sym, ap, subst, ◌+◌, ◌<◌, take, get_or, length, arith, refl, Option, List}
 use Rattle.std.proofs.lemmas.List.{length-take}
 use Rattle.rc_base.specs.declared.ids.Lsn.{Lsn}
 use Rattle.txn_table.specs.declared.committed.Committed.{Committed}

@@ -1,4 +1,3 @@
-use Rattle.std.proofs.Common.{◌∙◌, sym}
 use Rattle.log_store.specs.Store.{kept_as}
 use Rattle.replica.proofs.Opening.{mounted_agrees}
 use Rattle.replica.proofs.replica.Replica.mount.Goals as goal

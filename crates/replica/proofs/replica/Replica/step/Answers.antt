@@ -1,16 +1,13 @@
-use Rattle.std.proofs.Common.{◌≡◌, ◌∙◌, sym, ap, ap₂, subst, ℕ, ◌+◌, ◌++◌, ◌<◌, ◌≤◌, length, List, Option, Some, None, arith, false}
-use Rattle.rc_base.specs.declared.ids.Epoch.{Epoch}
-use Rattle.log_records.specs.declared.record.Record.{Record}
+use Rattle.std.proofs.Common.{◌≡◌, ◌∙◌, sym, ap, subst, ℕ, ◌+◌, ◌≤◌, length, List, Some, arith, false}
 use Rattle.log_records.specs.declared.record.Physical.{Physical}
 use Rattle.barrier_group.specs.Group.{spelled}
 use Rattle.log_store.specs.Durable.{StandFor, StandForOneOf}
 use Rattle.log_store.specs.Growth.{GoesOn, after}
 use Rattle.log_store.specs.Store.{Store, IsOpenOn}
 use Rattle.replica.specs.Logging.{AllFit}
-use Rattle.replica.specs.Open.{Open, AreSame, AgreesWith}
-use Rattle.replica.specs.Step as spec
-use Rattle.replica.specs.Step.{MayStep, block, fences, logged, stepped}
-use Rattle.replica.proofs.Lengthened.{steps_to, identity_after, logged_few}
+use Rattle.replica.specs.Open.{Open}
+use Rattle.replica.specs.Step.{block, stepped}
+use Rattle.replica.proofs.Lengthened.{steps_to, identity_after}
 use Rattle.replica.proofs.Told.{logged_fits, parts_told}
 use Rattle.replica.proofs.Short.{block_short}
 use Rattle.replica.proofs.Stepped.{shown_few, block_is, both_parts, kept_front, behind_parts, own_log, kept_is, agrees_same}
