@@ -6,13 +6,14 @@ use Rattle.script_text.specs.declared.event.Event.TheVariants.{Boot, Arm, Reboot
 use Rattle.order_machine.specs.declared.observation.Observation.{Observation}
 use Rattle.order_machine.specs.declared.observation.Observation.TheVariants as says
 use Rattle.order_machine.specs.Machine.{Machine, empty_machine}
-use Rattle.order_machine.specs.Rows.{refusal}
+use Rattle.order_machine.specs.Rows.{refusal, down_of}
 use Rattle.order_machine.specs.Legal.{IsWhole, moved}
 use Rattle.replica.specs.Open.{Open}
 use Rattle.world.specs.declared.error.WorldError.{WorldError}
 use Rattle.world.specs.declared.error.WorldError.TheVariants as errors
-use Rattle.world.specs.Kept.{Kept}
+use Rattle.world.specs.Kept.{Kept, has_booted}
 use Rattle.world.specs.World.{StandsFor, StillHolds, Serves}
+use Rattle.world.proofs.Booted.{once_standing}
 use Rattle.world.proofs.Refusals.{refused_serves}
 use Rattle.world.proofs.Later.{new_of, closed_of, open_of, booted_stands, up_role, stands_later}
 use Rattle.world.proofs.Still.{stands_still}
@@ -53,22 +54,22 @@ err_serves old new before now event result e still y is =
 -- ---- which are answered so
 
 -- before the boot
-pub new_refuses : (k : Kept) (images : Areas → Type 0) (event : Event) → k.booted ≡ false → refusal empty_machine event ≡ Some (says.Refused 9) → (m : Machine) → StandsFor k images m → refusal m event ≡ Some (says.Refused 9)
+pub new_refuses : (k : Kept) (images : Areas → Type 0) (event : Event) → has_booted k ≡ false → refusal empty_machine event ≡ Some (says.Refused 9) → (m : Machine) → StandsFor k images m → refusal m event ≡ Some (says.Refused 9)
 new_refuses k images event new e m s = let n = new_of k images m new s in subst (λ x. refusal x event ≡ Some (says.Refused 9)) (sym n.is) e
 
 -- a second boot
-pub boot_refuses : (k : Kept) (images : Areas → Type 0) → k.booted ≡ true → (m : Machine) → StandsFor k images m → refusal m (Boot 0 (0 ∷ [])) ≡ Some (says.Refused 9)
+pub boot_refuses : (k : Kept) (images : Areas → Type 0) → has_booted k ≡ true → (m : Machine) → StandsFor k images m → refusal m (Boot 0 (0 ∷ [])) ≡ Some (says.Refused 9)
 boot_refuses k images booted m s = rw (booted_stands k images m booted s) refl
 
 -- what asks something of a closed replica
-pub arm_down : (k : Kept) (images : Areas → Type 0) (calls : ℕ) → k.booted ≡ true → k.replica ≡ None → (m : Machine) → StandsFor k images m → refusal m (Arm 0 calls) ≡ Some (says.Down 0)
-arm_down k images calls booted none m s = let c = closed_of k images m booted none s in rw c.is_shut.is refl
+pub arm_down : (k : Kept) (images : Areas → Type 0) (calls : ℕ) → has_booted k ≡ true → k.replica ≡ None → (m : Machine) → StandsFor k images m → refusal m (Arm 0 calls) ≡ Some (says.Down 0)
+arm_down k images calls booted none m s = let c = closed_of k images m booted none s in once_standing m (down_of m 0) (booted_stands k images m booted s) ∙ rw c.is_shut.is refl
 
-pub inspect_down : (k : Kept) (images : Areas → Type 0) → k.booted ≡ true → k.replica ≡ None → (m : Machine) → StandsFor k images m → refusal m (Inspect 0) ≡ Some (says.Down 0)
-inspect_down k images booted none m s = let c = closed_of k images m booted none s in rw c.is_shut.is refl
+pub inspect_down : (k : Kept) (images : Areas → Type 0) → has_booted k ≡ true → k.replica ≡ None → (m : Machine) → StandsFor k images m → refusal m (Inspect 0) ≡ Some (says.Down 0)
+inspect_down k images booted none m s = let c = closed_of k images m booted none s in once_standing m (down_of m 0) (booted_stands k images m booted s) ∙ rw c.is_shut.is refl
 
 -- what opens an open one
-pub reboot_ignored : (k : Kept) (images : Areas → Type 0) (r : Open) → k.booted ≡ true → k.replica ≡ Some r → (m : Machine) → StandsFor k images m → refusal m (Reboot 0) ≡ Some says.IgnoredUp
+pub reboot_ignored : (k : Kept) (images : Areas → Type 0) (r : Open) → has_booted k ≡ true → k.replica ≡ Some r → (m : Machine) → StandsFor k images m → refusal m (Reboot 0) ≡ Some says.IgnoredUp
 reboot_ignored k images r booted some m s = rw (booted_stands k images m booted s, up_role r.role k.last r images m (open_of k images m r booted some s)) refl
 
 -- the same, of another error that tells want of memory

@@ -28,6 +28,7 @@ use Rattle.order_machine.proofs.ProtectedGrants.{Alike-taken, AreExclusive-taken
 use Rattle.txn_front.specs.Front.{Fronted, Going, going_of, told, txn_at}
 use Rattle.world.specs.Running.{running, state_of, Runs, RunsWith, IsKept}
 use Rattle.world.proofs.Answer.{answer_serves, live_reply_is}
+use Rattle.world.proofs.Booted.{running_unrefused}
 use Rattle.world.proofs.Changed.{ChangesAt, at_own, at_other, kept_other, with_call}
 use Rattle.order_machine.proofs.ProtectedCalls.{AreProtected-taken, AreProtected-push, IsCallProtected-live}
 use Rattle.world.proofs.Quiet.{holds_behind}
@@ -106,7 +107,7 @@ abbrev taken_there : (front : Fronted) (shown : ℕ) (contents : State) (m : Mac
 taken_there front shown contents m h t g call = taken h.grants t (locks_at (folded (state_of h.entries) g.ops) call)
 
 each_asked : (front new : Fronted) (shown : ℕ) (contents : State) (m : Machine) (h : Runs front shown contents m) (call : Call) (t : TxnId) (g : Going) (k : IsKnown front shown contents m h t g) (reply : Reply) → IsInCollection call → going_of front t ≡ Some g → (a : IsAsked front new contents t g call reply.op) → live_reply h.grants (folded (state_of h.entries) g.ops) t call ≡ Some reply →
-    (u : TxnId) (y : Txn) (b : Bool) → is_txn u t ≡ b → cond b (Some (with_call k.txn (noted_call call reply))) (lookup (is_txn u) h.txns) ≡ Some y → IsKept new (taken_there front shown contents m h t g call) h.entries h.acknowledged u y
+    (u : TxnId) (y : Txn) (b : Bool) → is_txn u t ≡ b → cond b (Some (with_call k.txn (noted_call call reply))) (lookup (is_txn u) h.txns) ≡ Some y → IsKept h.course new (taken_there front shown contents m h t g call) h.entries h.acknowledged u y
 each_asked front new shown contents m h call t g k reply in_one is a says_so u y true same e =
     let x = k.txn in
     let c = noted_call call reply in
@@ -115,13 +116,14 @@ each_asked front new shown contents m h call t g k reply in_one is a says_so u y
     let now : List Grant = taken_there front shown contents m h t g call in
     let protected : AreProtected now t (state_of h.entries) x.calls = AreProtected-taken h.grants t (locks_at (folded (state_of h.entries) g.ops) call) t (state_of h.entries) x.calls (was.protected k.on) in
     let last : IsCallProtected now t (folded (state_of h.entries) (ops_of x)) c = subst (λ ops. IsCallProtected now t (folded (state_of h.entries) ops) c) (sym k.ops) (IsCallProtected-live h.grants t (folded (state_of h.entries) g.ops) call reply says_so) in
-    let P : TxnId → Type 0 = λ v. IsKept new now h.entries h.acknowledged v y in
-    let Q : Txn → Type 0 = λ z. IsKept new now h.entries h.acknowledged t z in
+    let P : TxnId → Type 0 = λ v. IsKept h.course new now h.entries h.acknowledged v y in
+    let Q : Txn → Type 0 = λ z. IsKept h.course new now h.entries h.acknowledged t z in
     subst P (sym (is_txn-true u t same)) (subst Q (same_Some (with_call x c) y e) (record {
       home = was.home;
-      epoch = was.epoch;
-      begun = let b = was.begun in let n = a.changes.begins_now in omega (arith, b, n);
+      within = was.within;
+      begun = λ same. let b = was.begun same in let n = a.changes.begins_now in omega (arith, b, n);
       on = k.on ∙ ap is_some (sym own);
+      here = was.here;
       asked = was.asked;
       not_held = was.not_held;
       not_acknowledged = was.not_acknowledged;
@@ -130,17 +132,18 @@ each_asked front new shown contents m h call t g k reply in_one is a says_so u y
     }))
 each_asked front new shown contents m h call t g k reply in_one is a says_so u y false other e =
     let locks = locks_at (folded (state_of h.entries) g.ops) call in
-    kept_other front new front.begins t (Some a.then) (grants_then front contents t g call) h.grants (taken_there front shown contents m h t g call) h.entries h.acknowledged a.changes (omega arith) u y other (h.each u y e)
+    kept_other front new front.begins t (Some a.then) (grants_then front contents t g call) h.grants (taken_there front shown contents m h t g call) h.entries h.acknowledged h.course a.changes (omega arith) u y other (h.each u y e)
     (λ p. AreProtected-taken h.grants t locks u (state_of h.entries) y.calls p)
 
 asked_runs : (front new : Fronted) (shown : ℕ) (contents : State) (m : Machine) (h : Runs front shown contents m) (call : Call) (t : TxnId) (g : Going) (k : IsKnown front shown contents m h t g) (reply : Reply) → IsInCollection call → going_of front t ≡ Some g → (a : IsAsked front new contents t g call reply.op) → live_reply h.grants (folded (state_of h.entries) g.ops) t call ≡ Some reply →
-    Runs new shown contents (running h.entries h.acknowledged ((t, with_call k.txn (noted_call call reply)) ∷ h.txns) front.begins (taken_there front shown contents m h t g call))
+    Runs new shown contents (running h.entries h.acknowledged ((t, with_call k.txn (noted_call call reply)) ∷ h.txns) front.begins (taken_there front shown contents m h t g call) h.course)
 asked_runs front new shown contents m h call t g k reply in_one is a says_so = record {
   entries = h.entries;
   acknowledged = h.acknowledged;
   txns = (t, with_call k.txn (noted_call call reply)) ∷ h.txns;
   grants = taken_there front shown contents m h t g call;
-  is = ap (λ n. running h.entries h.acknowledged ((t, with_call k.txn (noted_call call reply)) ∷ h.txns) n (taken_there front shown contents m h t g call)) (sym a.changes.begins_now);
+  course = h.course;
+  is = ap (λ n. running h.entries h.acknowledged ((t, with_call k.txn (noted_call call reply)) ∷ h.txns) n (taken_there front shown contents m h t g call) h.course) (sym a.changes.begins_now);
   epoch = a.changes.epoch ∙ h.epoch;
   alike = λ name. Alike-taken h.grants front.grants h.alike t (locks_at (folded (state_of h.entries) g.ops) call) name ∙ (same_locks name ∙ a.changes.grants_now name);
   exclusive = AreExclusive-taken h.grants t (locks_at (folded (state_of h.entries) g.ops) call) h.exclusive;
@@ -149,7 +152,8 @@ asked_runs front new shown contents m h call t g k reply in_one is a says_so = r
   each = λ u y e. each_asked front new shown contents m h call t g k reply in_one is a says_so u y (is_txn u t) refl e;
   live_known = λ u f e. known_there u f e (is_txn u t) refl;
   held = h.held;
-  held_begun = λ u e. let n = h.held_begun u e in let b = a.changes.begins_now in omega (arith, n, b);
+  held_within = h.held_within;
+  held_begun = λ u e same. let n = h.held_begun u e same in let b = a.changes.begins_now in omega (arith, n, b);
 }
   where
     same_locks : (name : _) → key_locks.holders name (taken front.grants t (locks_at (folded (state_of h.entries) g.ops) call)) ≡ key_locks.holders name (grants_then front contents t g call)
@@ -160,18 +164,18 @@ asked_runs front new shown contents m h call t g k reply in_one is a says_so = r
     known_there u f e false other = h.live_known u f (sym (at_other front new front.begins t (Some a.then) (grants_then front contents t g call) a.changes u other) ∙ e)
 
 pub asked_serves : (front new : Fronted) (shown : ℕ) (contents : State) (m : Machine) (call : Call) (t : TxnId) (g : Going) (reply : Reply) → IsInCollection call → txn_named call ≡ Some t → (h : Runs front shown contents m) → going_of front t ≡ Some g → told front contents call ≡ Some reply → IsAsked front new contents t g call reply.op →
-    IsWhole m (Client 0 call) (reply.answer ∷ []) × RunsWith h.entries new shown contents (moved m (Client 0 call) (reply.answer ∷ []))
+    IsWhole m (Client 0 call) (reply.answer ∷ []) × RunsWith h.entries h.course new shown contents (moved m (Client 0 call) (reply.answer ∷ []))
 unfolding asked_runs
 asked_serves front new shown contents m call t g reply in_one named h is says_so a =
     let n : Machine = machine_of h in
     let k = known_of front shown contents m h t g is in
     let there : going_at n 0 t ≡ Some k.txn = cond-true _ (lookup (is_txn t) h.txns) None k.live_there ∙ k.known in
-    let now : Machine = running h.entries h.acknowledged h.txns front.begins (taken_there front shown contents m h t g call) in
-    let asked : asking n 0 call ≡ now = collection_asking n call t k.txn in_one named there ∙ ap (λ s. running h.entries h.acknowledged h.txns front.begins (taken h.grants t (locks_at s call))) k.sees in
+    let now : Machine = running h.entries h.acknowledged h.txns front.begins (taken_there front shown contents m h t g call) h.course in
+    let asked : asking n 0 call ≡ now = collection_asking n call t k.txn in_one named there ∙ ap (λ s. running h.entries h.acknowledged h.txns front.begins (taken h.grants t (locks_at s call)) h.course) k.sees in
     let here : live_reply h.grants (folded (state_of h.entries) g.ops) t call ≡ Some reply = live_reply_alike h.grants front.grants (folded (state_of h.entries) g.ops) (folded contents g.ops) t call h.alike (ap (λ s. folded s g.ops) (sym h.sees)) ∙ (sym (going_told front contents call t g named is) ∙ says_so) in
     let then = asked_runs front new shown contents m h call t g k reply in_one is a here in
-    let R : Option Txn → Type 0 = λ o. RunsWith h.entries new shown contents (option_map_or (λ y. put_txn now t (with_call y (noted_call call reply))) o now) in
-    let S : Option TxnId → Type 0 = λ o. RunsWith h.entries new shown contents (option_map_or (λ v. noted now v (noted_call call reply)) o (begun_by now 0 reply.answer)) in
-    let all = subst S (sym named) (subst R (sym k.known) (then, refl)) in
-    let P : Machine → Type 0 = λ at. IsWhole at (Client 0 call) (reply.answer ∷ []) × RunsWith h.entries new shown contents (moved at (Client 0 call) (reply.answer ∷ [])) in
-    subst P (sym h.is) (answer_serves n now 0 call reply.answer reply.op (RunsWith h.entries new shown contents) refl asked (answer_told front shown contents m h call ∙ says_so) (live_reply_is front.grants (folded contents g.ops) t call reply (sym (going_told front contents call t g named is) ∙ says_so)) (holds_behind _ _ _ _ all.0) all)
+    let R : Option Txn → Type 0 = λ o. RunsWith h.entries h.course new shown contents (option_map_or (λ y. put_txn now t (with_call y (noted_call call reply))) o now) in
+    let S : Option TxnId → Type 0 = λ o. RunsWith h.entries h.course new shown contents (option_map_or (λ v. noted now v (noted_call call reply)) o (begun_by now 0 reply.answer)) in
+    let all = subst S (sym named) (subst R (sym k.known) (then, (refl, refl))) in
+    let P : Machine → Type 0 = λ at. IsWhole at (Client 0 call) (reply.answer ∷ []) × RunsWith h.entries h.course new shown contents (moved at (Client 0 call) (reply.answer ∷ [])) in
+    subst P (sym h.is) (answer_serves n now 0 call reply.answer reply.op (RunsWith h.entries h.course new shown contents) (running_unrefused front shown contents m h call) asked (answer_told front shown contents m h call ∙ says_so) (live_reply_is front.grants (folded contents g.ops) t call reply (sym (going_told front contents call t g named is) ∙ says_so)) (holds_behind _ _ _ _ all.0) all)

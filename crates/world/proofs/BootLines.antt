@@ -11,7 +11,7 @@ use Rattle.order_machine.specs.Rows.{Position, May, HoldsBehind, opened, first_e
 use Rattle.order_machine.specs.Legal.{behind, IsWhole, moved}
 use Rattle.order_machine.proofs.Behind.{not_alone}
 use Rattle.order_machine.proofs.Kept.{never_put}
-use Rattle.world.specs.Standing.{serving, shut, standing}
+use Rattle.world.specs.Standing.{first_course, serving, shut, standing}
 use Rattle.world.proofs.WithoutRole.{holds_without_role}
 
 abbrev pub boot : Event
@@ -66,17 +66,17 @@ done_may = record { named = refl; in_rank = refl; next = refl; goes_on = refl; r
 
 -- ---- the boot
 
-holds_booted : HoldsBehind (standing [] [] (serving 0 0 []) [] true)
+holds_booted : HoldsBehind (standing [] [] (serving (first_course true) 0 0 []) [] (first_course true))
 holds_booted = record {
   not_shown = λ r t h. absurd (false≢true h);
   alone = elim [
     | zero ↦ λ h. (refl, λ t. refl)
-    | suc r ↦ λ h. absurd (not_alone (standing [] [] (serving 0 0 []) [] true) (suc r) (ap (λ x. x.role) (never_put (suc r))) h)
+    | suc r ↦ λ h. absurd (not_alone (standing [] [] (serving (first_course true) 0 0 []) [] (first_course true)) (suc r) (ap (λ x. x.role) (never_put (suc r))) h)
   ];
 }
 
 pub boot_serves : IsWhole empty_machine (Boot 0 (0 ∷ [])) (says.Up 0 ∷ says.View 0 0 ∷ says.Active 0 ∷ says.Done ∷ [])
-    × (moved empty_machine (Boot 0 (0 ∷ [])) (says.Up 0 ∷ says.View 0 0 ∷ says.Active 0 ∷ says.Done ∷ []) ≡ standing [] [] (serving 0 0 []) [] true)
+    × (moved empty_machine (Boot 0 (0 ∷ [])) (says.Up 0 ∷ says.View 0 0 ∷ says.Active 0 ∷ says.Done ∷ []) ≡ standing [] [] (serving (first_course true) 0 0 []) [] (first_course true))
 boot_serves = (
   record {
     may = (up_may, (view_may, (active_may, (done_may, tt))));
@@ -90,19 +90,19 @@ boot_serves = (
 
 -- the disk faults as the replica is opened
 pub boot_mount_faults : IsWhole empty_machine (Boot 0 (0 ∷ [])) (says.Fault 0 ∷ [])
-    × (moved empty_machine (Boot 0 (0 ∷ [])) (says.Fault 0 ∷ []) ≡ standing [] [] (shut 0) [] false)
+    × (moved empty_machine (Boot 0 (0 ∷ [])) (says.Fault 0 ∷ []) ≡ standing [] [] (shut (first_course false) 0) [] (first_course false))
 boot_mount_faults = (
   record {
     may = (record { named = refl; in_rank = refl; next = refl; goes_on = refl; row = inl (inl (refl, ([], refl))) }, tt);
     complete = record { opened = refl; grown = refl; mounted = refl; told = refl; answered = refl };
-    holds = holds_without_role [] [] (shut 0) [] false refl;
+    holds = holds_without_role [] [] (shut (first_course false) 0) [] (first_course false) refl;
   },
   refl,
 )
 
 -- as it starts its epoch
 pub boot_start_faults : IsWhole empty_machine (Boot 0 (0 ∷ [])) (says.Up 0 ∷ says.View 0 0 ∷ says.Fault 0 ∷ [])
-    × (moved empty_machine (Boot 0 (0 ∷ [])) (says.Up 0 ∷ says.View 0 0 ∷ says.Fault 0 ∷ []) ≡ standing [] [] (shut 0) [] false)
+    × (moved empty_machine (Boot 0 (0 ∷ [])) (says.Up 0 ∷ says.View 0 0 ∷ says.Fault 0 ∷ []) ≡ standing [] [] (shut (first_course false) 0) [] (first_course false))
 boot_start_faults = (
   record {
     may = (
@@ -116,19 +116,19 @@ boot_start_faults = (
       ),
     );
     complete = record { opened = refl; grown = refl; mounted = refl; told = refl; answered = refl };
-    holds = holds_without_role [] [] (shut 0) [] false refl;
+    holds = holds_without_role [] [] (shut (first_course false) 0) [] (first_course false) refl;
   },
   refl,
 )
 
 -- and as it logs, behind the answer, that it became active
 pub boot_barrier_faults : IsWhole empty_machine (Boot 0 (0 ∷ [])) (says.Up 0 ∷ says.View 0 0 ∷ says.Active 0 ∷ says.Done ∷ says.Fault 0 ∷ [])
-    × (moved empty_machine (Boot 0 (0 ∷ [])) (says.Up 0 ∷ says.View 0 0 ∷ says.Active 0 ∷ says.Done ∷ says.Fault 0 ∷ []) ≡ standing [] [] (shut 0) [] true)
+    × (moved empty_machine (Boot 0 (0 ∷ [])) (says.Up 0 ∷ says.View 0 0 ∷ says.Active 0 ∷ says.Done ∷ says.Fault 0 ∷ []) ≡ standing [] [] (shut (first_course true) 0) [] (first_course true))
 boot_barrier_faults = (
   record {
     may = (up_may, (view_may, (active_may, (done_may, (fault_may, tt)))));
     complete = record { opened = refl; grown = refl; mounted = refl; told = refl; answered = refl };
-    holds = holds_without_role [] [] (shut 0) [] true refl;
+    holds = holds_without_role [] [] (shut (first_course true) 0) [] (first_course true) refl;
   },
   refl,
 )

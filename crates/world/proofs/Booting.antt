@@ -1,15 +1,19 @@
 -- The boot of replica 0 over a disk without a log.
-use Rattle.std.proofs.Common.{◌≡◌, ◌∙◌, sym, ap, subst, refl, ℕ, ◌+◌, ◌≤◌, Bool, true, false, cond, List, [], ◌∷◌, ◌++◌, length, map, flat_map, Option, Some, None, Result, Ok, arith, inl, inr, ◌⊎◌, ⊎_elim, suc}
+use Rattle.std.specs.Prelude.{if◌then◌else◌}
+use Rattle.std.proofs.Common.{◌≡◌, ◌∙◌, sym, ap, subst, refl, ℕ, ◌+◌, ◌≤◌, Bool, true, false, List, [], ◌∷◌, ◌++◌, length, map, flat_map, Option, Some, None, is_some, Result, Ok, arith, inl, inr, ◌⊎◌, ⊎_elim, suc}
 use Rattle.std.specs.Option.{ForSome, IsSome, IfSome}
 use Rattle.std.proofs.lemmas.Bool.{false≢true}
+use Rattle.std.specs.List.{list_any}
+use Rattle.std.proofs.lemmas.List.Elements.{All-from_recursion}
 use Rattle.std.proofs.lemmas.Option.{none-some}
-use Rattle.rc_base.specs.declared.ids.TxnId.{TxnId}
-use Rattle.rc_base.specs.Ids.{no_epoch, epoch_lt, is_epoch}
+use Rattle.config_rule.specs.Rule.{Known, after_boot, after_active}
+use Rattle.rc_base.specs.Ids.{no_epoch, epoch_lt}
 use Rattle.key_locks.specs.declared.lock_mode.LockMode.TheVariants.{Exclusive}
 use Rattle.coll_model.specs.Effect.{folded}
 use Rattle.disk_model.specs.Disk.{Areas, Follows}
 use Rattle.log_store.specs.declared.kept.Kept.{Kept as Log}
 use Rattle.log_store.specs.Durable.{durable, StandFor}
+use Rattle.log_store.specs.Epochs.{later}
 use Rattle.log_store.specs.Fold.{Place, no_log}
 use Rattle.log_store.specs.Growth.{new_log}
 use Rattle.log_store.specs.Log.{commits_in}
@@ -20,7 +24,7 @@ use Rattle.order_machine.specs.declared.observation.Observation.TheVariants as s
 use Rattle.order_machine.specs.Machine.{Machine, empty_machine}
 use Rattle.order_machine.specs.Legal.{IsWhole, moved}
 use Rattle.order_machine.specs.Rows.{first_epoch}
-use Rattle.txn_front.specs.Front.{Fronted, Going, nothing, going_of}
+use Rattle.txn_front.specs.Front.{Fronted, nothing, going_of}
 use Rattle.replica.specs.declared.role.Role.TheVariants.{Other}
 use Rattle.replica.specs.declared.step.StepEvent.{StepEvent}
 use Rattle.replica.specs.declared.step.StepEvent.TheVariants as steps
@@ -28,17 +32,20 @@ use Rattle.replica.specs.Open as opens
 use Rattle.replica.specs.Open.{Open, AreSame, AgreesWith, stable_in, commits_to}
 use Rattle.replica.specs.Step.{MayStep}
 use Rattle.world.specs.Fleet.{faults_in, TellsZero}
-use Rattle.world.specs.Steps.{told_by, finished, log_once, log_twice, log_behind, HoldsSome}
+use Rattle.world.specs.Course.{IsCourse, IsOurs, ArePast, IsFence}
+use Rattle.world.specs.Standing.{Course, first_course}
+use Rattle.world.specs.Steps.{told_start, finished, log_once, log_twice, log_behind, HoldsSome, is_active_line}
 use Rattle.world.specs.Disks.{as_commit}
-use Rattle.world.specs.Kept.{Kept}
-use Rattle.world.specs.Running.{running, Runs}
-use Rattle.world.specs.World.{StandsFor, AsReplica, Serving, IsOpen, IsSound, Serves, StillHolds}
+use Rattle.world.specs.Kept.{Kept, no_events, has_booted}
+use Rattle.world.specs.Running.{running, RunsWith}
+use Rattle.world.specs.World.{StandsFor, AsReplica, Serving, IsOpen, IsSound, IsRuled, Serves, StillHolds}
 use Rattle.world.proofs.Changed.{runs_alike}
-use Rattle.world.proofs.Later.{new_of, as_replica, replica_later}
+use Rattle.world.proofs.Later.{new_of, as_replica, replica_later, ruled_as}
 use Rattle.world.proofs.Faultless.{fault_first}
 use Rattle.world.proofs.BootLines.{mounted, boot_lines, boot_serves, boot_mount_faults, boot_start_faults, boot_barrier_faults}
 use Rattle.world.proofs.Readable.{an_image}
 use Rattle.world.proofs.Reopening.{AreSound, sound_all, sound_follows}
+use Rattle.world.proofs.Started.{nothing_going}
 
 abbrev pub first_start : StepEvent
 first_start = steps.Start first_epoch
@@ -61,6 +68,7 @@ log_is_new r log images now seen empty follows told shown o =
 -- what a replica keeps that was opened over it
 pub record IsFresh (r : Open) : Type 0 where
   pub id : r.id ≡ 0
+  pub fence : r.fence ≡ no_epoch
   pub epoch : r.epoch ≡ no_epoch
   pub last : r.last.0 ≡ 0
   pub shown : r.shown ≡ 0
@@ -76,6 +84,7 @@ fresh_over_new r log now new o stable role front =
     let none : commits_to r.stable.0 [] ≡ [] = ap (λ (n : ℕ). commits_to n []) zero_stable in
     record {
       id = o.first;
+      fence = sym agrees.fence;
       epoch = sym agrees.epoch;
       last = sym agrees.last;
       shown = sym agrees.shown ∙ ap length none;
@@ -88,8 +97,8 @@ fresh_over_new r log now new o stable role front =
 pub fresh_may_start : (r : Open) → IsFresh r → MayStep r first_start
 fresh_may_start r f = ap (λ e. epoch_lt e first_epoch) f.epoch
 
-pub told_start : (r : Open) → IsFresh r → told_by r first_start ≡ says.Active 0 ∷ []
-told_start r f = rw (f.ahead, f.shown, f.role, f.id) refl
+pub start_told : (r : Open) → IsFresh r → told_start 0 r ≡ says.Active 0 ∷ []
+start_told r f = rw (f.ahead, f.shown, f.id) refl
 
 -- the lines of the opening
 abbrev pub opened_lines : ℕ → List Observation
@@ -114,92 +123,126 @@ over_new o r images now seen begun lines untold some empty follows told shown op
 
 -- ---- the boot
 
--- the lines and the state behind them
+-- what the rule knows behind such lines
+abbrev pub booted_rule : List Observation → Known
+booted_rule lines = if list_any is_active_line lines then after_active (after_boot (0 ∷ [])) first_epoch else after_boot (0 ∷ [])
+
+-- the lines, the state behind them, and what the rule knows then
 abbrev pub Boots : Option Open → (Areas → Type 0) → List Observation → Type 0
-Boots o now lines = IsWhole empty_machine (Boot 0 (0 ∷ [])) lines × AsReplica o 1 now (moved empty_machine (Boot 0 (0 ∷ [])) lines)
+Boots o now lines =
+    IsWhole empty_machine (Boot 0 (0 ∷ [])) lines
+    × AsReplica o 1 now (moved empty_machine (Boot 0 (0 ∷ [])) lines)
+    × IsRuled (record no_events { rule = Some (booted_rule lines) }) (moved empty_machine (Boot 0 (0 ∷ [])) lines)
 
-pub started_lines : (r : Open) (opened lines : List Observation) → IsFresh r → opened ≡ opened_lines r.shown → lines ≡ (opened ++ told_by r first_start) ++ says.Done ∷ [] → lines ≡ boot_lines
-started_lines r opened lines f is all =
-    all ∙ ap (λ ls. ls ++ says.Done ∷ []) (ap (λ ls. ls ++ told_by r first_start) (is ∙ ap opened_lines f.shown) ∙ ap (λ ls. opened_lines 0 ++ ls) (told_start r f))
+-- ---- the first appointment
 
-nothing_going : (t : TxnId) → going_of (nothing first_epoch) t ≡ None
-nothing_going t = either_way (is_epoch t.epoch first_epoch)
-  where
-    either_way : (here : Bool) → ◌≡◌ {A = Option Going} (cond here None None) None
-    either_way true = refl
-    either_way false = refl
-
--- nothing goes on in the first epoch
-started_runs : (r : Open) (m : Machine) → IsFresh r → m ≡ running [] [] [] 0 [] → Runs (nothing first_epoch) (r.shown + length r.ahead) (folded r.contents (flat_map (λ c. c.ops) r.ahead)) m
-started_runs r m f is = record {
-  entries = [];
-  acknowledged = [];
-  txns = [];
-  grants = [];
-  is = is;
-  epoch = refl;
-  alike = λ name. refl;
-  exclusive = λ name t u mode other held also. absurd (none-some Exclusive held);
-  all_shown = rw (f.shown, f.ahead) refl;
-  sees = rw (f.contents, f.ahead) refl;
-  each = λ t x e. absurd (none-some x e);
-  live_known = λ t going e. absurd (none-some going (sym (nothing_going t) ∙ e));
-  held = λ t e. absurd (false≢true e);
-  held_begun = λ t e. absurd (false≢true e);
+course_first : (was_active : Bool) → IsCourse (first_course was_active)
+course_first was_active = record {
+  each = All-from_recursion (IsOurs first_epoch) ((first_course was_active).first ∷ []) (record { primary = refl; current = refl; within = refl }, tt);
+  latest = refl;
 }
 
+past_first : (was_active : Bool) → ArePast (first_course was_active) [] [] []
+past_first was_active = record {
+  each = λ t x e. absurd (none-some x e);
+  held = λ t e. absurd (false≢true e);
+  held_within = λ t e. absurd (false≢true e);
+}
+
+pub started_lines : (r : Open) (opened lines : List Observation) → IsFresh r → opened ≡ opened_lines r.shown → lines ≡ (opened ++ told_start 0 r) ++ says.Done ∷ [] → lines ≡ boot_lines
+started_lines r opened lines f is all =
+    all ∙ ap (λ ls. ls ++ says.Done ∷ []) (ap (λ ls. ls ++ told_start 0 r) (is ∙ ap opened_lines f.shown) ∙ ap (λ ls. opened_lines 0 ++ ls) (start_told r f))
+
+-- nothing goes on in the first epoch
+started_first : (r : Open) → IsFresh r → RunsWith [] (first_course true) (nothing first_epoch) (r.shown + length r.ahead) (folded r.contents (flat_map (λ c. c.ops) r.ahead)) (running [] [] [] 0 [] (first_course true))
+started_first r f = (
+  record {
+    entries = [];
+    acknowledged = [];
+    txns = [];
+    grants = [];
+    course = first_course true;
+    is = refl;
+    epoch = refl;
+    alike = λ name. refl;
+    exclusive = λ name t u mode other held also. absurd (none-some Exclusive held);
+    all_shown = rw (f.shown, f.ahead) refl;
+    sees = rw (f.contents, f.ahead) refl;
+    each = λ t x e. absurd (none-some x e);
+    live_known = λ t going e. absurd (none-some going (sym (nothing_going first_epoch t) ∙ e));
+    held = λ t e. absurd (false≢true e);
+    held_within = λ t e. absurd (false≢true e);
+    held_begun = λ t e. absurd (false≢true e);
+  },
+  (refl, refl),
+)
+
 pub boots_whole : (r x : Open) (log : Log) (now : Areas → Type 0) (opened lines : List Observation) → IsFresh r → log ≡ new_log 0 → AreSame x (record (finished r first_start) { log = x.log }) → IsOpen x (log_behind r first_start log) now →
-    opened ≡ opened_lines r.shown → lines ≡ (opened ++ told_by r first_start) ++ says.Done ∷ [] → Boots (Some x) now lines
-unfolding started_runs
+    opened ≡ opened_lines r.shown → lines ≡ (opened ++ told_start 0 r) ++ says.Done ∷ [] → Boots (Some x) now lines
 boots_whole r x log now opened lines f new kept o is all =
+    let n : Machine = moved empty_machine (Boot 0 (0 ∷ [])) boot_lines in
     let y : Open = record (finished r first_start) { log = x.log; front = x.front } in
-    let runs = runs_alike [] (nothing first_epoch) x.front (r.shown + length r.ahead) (folded r.contents (flat_map (λ c. c.ops) r.ahead)) (moved empty_machine (Boot 0 (0 ∷ [])) boot_lines) kept.front (started_runs r _ f boot_serves.1, refl) in
-    let served : Serving 1 y now (moved empty_machine (Boot 0 (0 ∷ [])) boot_lines) = record {
+    let runs = runs_alike [] (first_course true) (nothing first_epoch) x.front (r.shown + length r.ahead) (folded r.contents (flat_map (λ c. c.ops) r.ahead)) n kept.front (started_first r f) in
+    let course : first_course true ≡ runs.0.course = sym runs.1.1 in
+    let served : Serving 1 y now n = record {
       runs = runs.0;
+      ruled = subst IsCourse course (course_first true);
       log = log_behind r first_start log;
       is_open = subst (λ (z : Open). IsOpen z (log_behind r first_start log) now) kept.same o;
-      epoch = refl;
-      commits = ap (map as_commit) runs.1 ∙ subst (λ (l : Log). [] ≡ commits_in (log_behind r first_start l).records) (sym new) refl;
+      epoch = ap (λ (c : Course). c.latest) course;
+      fence = subst (λ (c : Course). IsFence c y.fence) course (subst (λ e. IsFence (first_course true) (later (later e first_epoch) first_epoch)) (sym f.fence) (inl refl));
+      commits = ap (map as_commit) runs.1.0 ∙ subst (λ (l : Log). [] ≡ commits_in (log_behind r first_start l).records) (sym new) refl;
       short = subst (λ (l : Log). length (log_behind r first_start l).records ≤ 3) (sym new) (omega arith);
       few = let none : x.front.begins ≡ 0 = ap (λ (g : Fronted). g.begins) kept.front.same in omega (arith, none);
-      recorded = λ t going e. absurd (none-some going (sym (ap (λ (g : Fronted). going_of g t) kept.front.same ∙ nothing_going t) ∙ e));
+      recorded = λ t going e. absurd (none-some going (sym (ap (λ (g : Fronted). going_of g t) kept.front.same ∙ nothing_going first_epoch t) ∙ e));
     } in
-    subst (Boots (Some x) now) (sym (started_lines r opened lines f is all))
-    (boot_serves.0, subst (λ (z : Open). AsReplica (Some z) 1 now (moved empty_machine (Boot 0 (0 ∷ [])) boot_lines)) (sym kept.same) served)
+    subst (Boots (Some x) now) (sym (started_lines r opened lines f is all)) (
+      boot_serves.0,
+      subst (λ (z : Open). AsReplica (Some z) 1 now n) (sym kept.same) served,
+      record { known = booted_rule boot_lines; rule = refl; appointed = (record { epoch = refl; members = refl; active = refl }, tt); current = refl; answers = refl; order = refl },
+    )
 
 -- ---- its faults
 
 -- the disk failed as the replica was opened
 pub boots_unopened : (images now : Areas → Type 0) (lines : List Observation) → StandFor no_log images → Follows (KeepsOrBegins 0) images now → lines ≡ says.Fault 0 ∷ [] → Boots None now lines
 boots_unopened images now lines empty follows is =
-    let sound : AreSound [] 1 images = λ c there. (no_log, empty c there, sound_all [] 1 no_log refl (omega arith)) in
+    let sound : AreSound [] [] (first_course false) 1 images = λ c there. (no_log, empty c there, sound_all [] [] (first_course false) 1 no_log refl (inl refl) (inr refl) (omega arith)) in
     subst (Boots None now) (sym is) (
       boot_mount_faults.0,
       record {
         entries = [];
-        is_shut = record { acknowledged = []; txns = []; was_active = false; shown = 0; is = boot_mount_faults.1 };
-        sound = sound_follows [] 1 images now follows sound;
+        is_shut = record { acknowledged = []; txns = []; course = first_course false; shown = 0; is = boot_mount_faults.1; ruled = course_first false; past = past_first false };
+        sound = sound_follows [] [] (first_course false) 1 images now follows sound;
       },
+      record { known = after_boot (0 ∷ []); rule = refl; appointed = (record { epoch = refl; members = refl; active = refl }, tt); current = refl; answers = refl; order = refl },
     )
 
 -- each of the three logs is sound
-sound_start : (r : Open) (log : Log) (now : Areas → Type 0) → log ≡ new_log 0 → HoldsSome r first_start log now → AreSound [] 1 now
-sound_start r log now new holds = λ c is. ⊎_elim
-    (λ (before : durable c ≡ Ok log). (log, before, subst (IsSound [] 1) (sym new) (sound_all [] 1 (new_log 0) refl (omega arith))))
+sound_start : (was_active : Bool) (r : Open) (log : Log) (now : Areas → Type 0) → log ≡ new_log 0 → HoldsSome r first_start log now → AreSound [] [] (first_course was_active) 1 now
+sound_start was_active r log now new holds =
+    let course = first_course was_active in
+    λ c is. ⊎_elim
+    (λ (before : durable c ≡ Ok log). (log, before, subst (IsSound [] [] course 1) (sym new) (sound_all [] [] course 1 (new_log 0) refl (inl refl) (inr refl) (omega arith))))
     (λ more. ⊎_elim
-    (λ (once : durable c ≡ Ok (log_once r first_start log)). (log_once r first_start log, once, subst (λ (l : Log). IsSound [] 1 (log_once r first_start l)) (sym new) (sound_all [] 1 (log_once r first_start (new_log 0)) refl (omega arith))))
-    (λ twice. (log_twice r first_start log, twice.1, subst (λ (l : Log). IsSound [] 1 (log_twice r first_start l)) (sym new) (sound_all [] 1 (log_twice r first_start (new_log 0)) refl (omega arith))))
+    (λ (once : durable c ≡ Ok (log_once r first_start log)). (log_once r first_start log, once, subst (λ (l : Log). IsSound [] [] course 1 (log_once r first_start l)) (sym new) (sound_all [] [] course 1 (log_once r first_start (new_log 0)) refl (inl refl) (inl refl) (omega arith))))
+    (λ twice. (log_twice r first_start log, twice.1, subst (λ (l : Log). IsSound [] [] course 1 (log_twice r first_start l)) (sym new) (sound_all [] [] course 1 (log_twice r first_start (new_log 0)) refl (inl refl) (inl refl) (omega arith))))
     more)
     (holds c is)
 
 -- the lines before the fault are those of the opening, or all of the boot
 abbrev pub IsCut : Open → List Observation → List Observation → Type 0
-IsCut r opened before = (before ≡ opened) ⊎ (before ≡ (opened ++ told_by r first_start) ++ says.Done ∷ [])
+IsCut r opened before = (before ≡ opened) ⊎ (before ≡ (opened ++ told_start 0 r) ++ says.Done ∷ [])
+
+-- as the start of an epoch says so
+pub cut_of : {S : Type 0} (r : Open) (opened before : List Observation) → ((before ≡ opened) × S) ⊎ (before ≡ (opened ++ told_start 0 r) ++ says.Done ∷ []) → IsCut r opened before
+cut_of r opened before (inl first) = inl first.0
+cut_of r opened before (inr all) = inr all
 
 pub cut_lines : (r : Open) (opened before lines : List Observation) → IsFresh r → opened ≡ opened_lines r.shown → IsCut r opened before → lines ≡ before ++ says.Fault 0 ∷ [] → (lines ≡ mounted ++ says.Fault 0 ∷ []) ⊎ (lines ≡ boot_lines ++ says.Fault 0 ∷ [])
 cut_lines r opened before lines f is cut all = ⊎_elim
     (λ (at_first : before ≡ opened). inl (all ∙ ap (λ ls. ls ++ says.Fault 0 ∷ []) (at_first ∙ (is ∙ ap opened_lines f.shown))))
-    (λ (behind_all : before ≡ (opened ++ told_by r first_start) ++ says.Done ∷ []). inr (all ∙ ap (λ ls. ls ++ says.Fault 0 ∷ []) (started_lines r opened before f is behind_all)))
+    (λ (behind_all : before ≡ (opened ++ told_start 0 r) ++ says.Done ∷ []). inr (all ∙ ap (λ ls. ls ++ says.Fault 0 ∷ []) (started_lines r opened before f is behind_all)))
     cut
 
 -- it failed as the epoch was started
@@ -209,17 +252,19 @@ boots_unstarted r log now lines new holds cut = ⊎_elim
       boot_start_faults.0,
       record {
         entries = [];
-        is_shut = record { acknowledged = []; txns = []; was_active = false; shown = 0; is = boot_start_faults.1 };
-        sound = sound_start r log now new holds;
+        is_shut = record { acknowledged = []; txns = []; course = first_course false; shown = 0; is = boot_start_faults.1; ruled = course_first false; past = past_first false };
+        sound = sound_start false r log now new holds;
       },
+      record { known = after_boot (0 ∷ []); rule = refl; appointed = (record { epoch = refl; members = refl; active = refl }, tt); current = refl; answers = refl; order = refl },
     ))
     (λ (behind_all : lines ≡ boot_lines ++ says.Fault 0 ∷ []). subst (Boots None now) (sym behind_all) (
       boot_barrier_faults.0,
       record {
         entries = [];
-        is_shut = record { acknowledged = []; txns = []; was_active = true; shown = 0; is = boot_barrier_faults.1 };
-        sound = sound_start r log now new holds;
+        is_shut = record { acknowledged = []; txns = []; course = first_course true; shown = 0; is = boot_barrier_faults.1; ruled = course_first true; past = past_first true };
+        sound = sound_start true r log now new holds;
       },
+      record { known = booted_rule boot_lines; rule = refl; appointed = (record { epoch = refl; members = refl; active = refl }, tt); current = refl; answers = refl; order = refl },
     ))
     cut
 
@@ -234,8 +279,17 @@ pub fault_of_zero : (lines : List Observation) → (lines ≡ mounted ++ says.Fa
 fault_of_zero lines (inl is) q = ap (faults_in (suc q)) is ∙ fault_first q
 fault_of_zero lines (inr is) q = ap (faults_in (suc q)) is ∙ fault_first q
 
-pub boot_does : (k new : Kept) (images now : Areas → Type 0) (o : Option Open) (lines : List Observation) → k.booted ≡ false → 1 ≤ new.last → new.booted ≡ true → new.replica ≡ o → Boots o now lines → Serves k new images now (Boot 0 (0 ∷ [])) (Ok lines)
-boot_does k new images now o lines fresh some booted is boots = λ m s.
+pub boot_does : (k new : Kept) (images now : Areas → Type 0) (o : Option Open) (lines : List Observation) → has_booted k ≡ false → 1 ≤ new.last → new.rule ≡ Some (booted_rule lines) → new.order ≡ k.order → new.replica ≡ o → Boots o now lines → Serves k new images now (Boot 0 (0 ∷ [])) (Ok lines)
+boot_does k new images now o lines fresh some rule order is boots = λ m s.
     let n = new_of k images m fresh s in
+    let last : Machine = moved empty_machine (Boot 0 (0 ∷ [])) lines in
+    let ruled : IsRuled new last = ruled_as (record no_events { rule = Some (booted_rule lines) }) new last rule (order ∙ n.unordered) boots.2 in
     subst (λ x. IsWhole x (Boot 0 (0 ∷ [])) lines × StandsFor new now (moved x (Boot 0 (0 ∷ [])) lines) × StillHolds x now) (sym n.is)
-    (boots.0, as_replica new now (moved empty_machine (Boot 0 (0 ∷ [])) lines) booted (subst (λ w. AsReplica w new.last now (moved empty_machine (Boot 0 (0 ∷ [])) lines)) (sym is) (replica_later o 1 new.last now (moved empty_machine (Boot 0 (0 ∷ [])) lines) some boots.1)), λ b. absurd (false≢true b))
+    (boots.0, as_replica new now last (ap is_some rule) (subst (λ w. AsReplica w new.last now last) (sym is) (replica_later o 1 new.last now last some boots.1)) ruled, λ b. absurd (false≢true b))
+
+-- what the rule knows, by what the lines tell
+pub rule_told : (lines : List Observation) → list_any is_active_line lines ≡ true → booted_rule lines ≡ after_active (after_boot (0 ∷ [])) first_epoch
+rule_told lines e = ap (λ (b : Bool). if b then after_active (after_boot (0 ∷ [])) first_epoch else after_boot (0 ∷ [])) e
+
+pub rule_untold : (lines : List Observation) → list_any is_active_line lines ≡ false → booted_rule lines ≡ after_boot (0 ∷ [])
+rule_untold lines e = ap (λ (b : Bool). if b then after_active (after_boot (0 ∷ [])) first_epoch else after_boot (0 ∷ [])) e

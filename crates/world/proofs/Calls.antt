@@ -28,7 +28,7 @@ use Rattle.order_machine.specs.Answers.{plain, live_reply, txn_named}
 use Rattle.order_machine.specs.Legal.{IsWhole, moved}
 use Rattle.replica.specs.declared.role.Role.TheVariants.{Other, Primary}
 use Rattle.replica.specs.declared.step.StepEvent.TheVariants as steps
-use Rattle.replica.specs.Open.{Open, AgreesWith}
+use Rattle.replica.specs.Open.{Open, AgreesWith, commits_to}
 use Rattle.log_records.specs.declared.record.Record.{Record}
 use Rattle.log_records.specs.declared.record.Record.TheVariants as recs
 use Rattle.rc_base.specs.declared.ids.Lsn.{Lsn}
@@ -42,9 +42,10 @@ use Rattle.replica.specs.Step.{placed, logged_op, CallFits, reply, is_active, lo
 use Rattle.txn_front.specs.Front.{Fronted, Going, going_of, told, IsOver, AreAlike}
 use Rattle.txn_front.specs.Front as front
 use Rattle.world.specs.Disks.{as_commit}
-use Rattle.world.specs.Running.{RunsWith}
-use Rattle.world.specs.Standing.{standing, serving, resting}
-use Rattle.world.specs.Steps.{told_by, finished, log_once, log_behind}
+use Rattle.world.specs.Course.{IsCourse, IsFence}
+use Rattle.world.specs.Running.{running, Runs, RunsWith}
+use Rattle.world.specs.Standing.{Course, standing, serving, resting}
+use Rattle.world.specs.Steps.{told_by, finished, log_once, log_behind, most_shown}
 use Rattle.world.specs.World.{IsOpen, Serving, Resting, AsRole, AsReplica, StillHolds}
 use Rattle.world.proofs.Aborted.{Ends, aborted_serves}
 use Rattle.world.proofs.Asked.{IsInCollection, IsAsked, asked_serves, going_told, grants_then}
@@ -53,7 +54,10 @@ use Rattle.world.proofs.Changed.{ChangesAt, runs_alike}
 use Rattle.world.proofs.Ended.{ended_serves, ended_told}
 use Rattle.world.proofs.FrontChanges.{changes_alike, begins_changes, ends_changes, asked_changes, op_then, last_then}
 use Rattle.world.proofs.Plain.{told_is, committed_open, lengthened_shown, lengthened_contents, lengthened_role, lengthened_epoch}
-use Rattle.world.proofs.Sound.{BeginsWith, begins_still, sound_later}
+use Rattle.world.proofs.Faultless.{answer_shows, reply_answers}
+use Rattle.world.proofs.Later.{Continues, continues_standing}
+use Rattle.world.proofs.Logged.{fence_called, latest_low}
+use Rattle.world.proofs.Sound.{BeginsWith, begins_still, sound_later, sound_txns}
 use Rattle.world.proofs.Still.{of_one}
 use Rattle.world.proofs.Unserved.{not_active_serves}
 use Rattle.replica.proofs.Lengthened.{records_after, commits_after, logged_few}
@@ -73,7 +77,7 @@ pub record IsDone (r r' : Open) (call : Call) (before now : Areas → Type 0) (g
 
 -- What a call does where its steps were done.
 abbrev pub IsServed : ℕ → Open → (Areas → Type 0) → Call → List Observation → Machine → Type 0
-IsServed number r now call lines m = IsWhole m (Client 0 call) lines × AsReplica (Some r) number now (moved m (Client 0 call) lines) × StillHolds m now
+IsServed number r now call lines m = IsWhole m (Client 0 call) lines × AsReplica (Some r) number now (moved m (Client 0 call) lines) × StillHolds m now × Continues (most_shown lines) m (moved m (Client 0 call) lines)
 
 -- as a role that the replica has
 pub as_primary : (number : ℕ) (x : Open) (now : Areas → Type 0) (m : Machine) (epoch : Epoch) (active : Bool) → x.role ≡ Primary epoch active → Serving number x now m → AsRole x.role number x now m
@@ -97,10 +101,20 @@ longer r event log = ap length (records_after log r event) ∙ (length-append lo
 pub holds_from : (last : ℕ) (r : Open) (before now : Areas → Type 0) (m : Machine) (log : Log) (s : Serving last r before m) → StandFor log now → BeginsWith s.runs.entries log → StillHolds m now
 holds_from last r before now m log s stands begins =
     subst (λ n. StillHolds n now) (sym s.runs.is)
-    (begins_still s.runs.entries s.runs.acknowledged (serving (length s.runs.entries) r.front.begins s.runs.grants) s.runs.txns true now refl (of_one s.runs.entries now log stands begins))
+    (begins_still s.runs.entries s.runs.acknowledged (serving s.runs.course (length s.runs.entries) r.front.begins s.runs.grants) s.runs.txns s.runs.course now refl (of_one s.runs.entries now log stands begins))
 
 begins_all : (entries : List Entry) (log : Log) → map as_commit entries ≡ commits_in log.records → BeginsWith entries log
 begins_all entries log commits = ([], append-nil (map as_commit entries) ∙ commits)
+
+-- machines that run with the same entries and decisions
+pub continues_runs : (front new : Fronted) (shown now_shown : ℕ) (contents state : State) (m n : Machine) (most : ℕ) (h : Runs front shown contents m) → RunsWith h.entries h.course new now_shown state n → most ≡ 0 → Continues most m n
+continues_runs front new shown now_shown contents state m n most h w none =
+    let k = w.0 in
+    let N : Machine = running h.entries h.acknowledged h.txns front.begins h.grants h.course in
+    let K : List Entry → Course → Machine = λ es c. running es k.acknowledged k.txns new.begins k.grants c in
+    let is : n ≡ K h.entries h.course = k.is ∙ (ap (λ es. K es k.course) w.1.0 ∙ ap (K h.entries) w.1.1) in
+    subst (λ a. Continues most a n) (sym h.is) (subst (Continues most N) (sym is)
+    (continues_standing h.entries h.acknowledged k.acknowledged (serving h.course (length h.entries) front.begins h.grants) (serving h.course (length h.entries) new.begins k.grants) h.txns k.txns h.course most refl refl none))
 
 -- ---- at a replica that rests
 
@@ -129,22 +143,31 @@ rests_done last number r r' call before now lines m later role s d =
     let no_records : log_behind r (steps.Client call) s.log ≡ s.log = quiet.log s.log ∙ ap (log_with r s.log) (rests_logs r call off) in
     let is_open : IsOpen r' s.log now = subst (λ l. IsOpen r' l now) no_records (d.stands s.log s.is_open) in
     let given : lines ≡ says.NotActive 0 ∷ [] = d.lines ∙ (quiet.lines ∙ ap (λ n. says.NotActive n ∷ []) s.is_open.first) in
-    let n : Machine = standing s.entries s.rests.acknowledged (resting r.shown) s.rests.txns s.rests.was_active in
-    let serves = not_active_serves s.entries s.rests.acknowledged r.shown s.rests.txns s.rests.was_active call in
+    let n : Machine = standing s.entries s.rests.acknowledged (resting s.rests.course r.shown) s.rests.txns s.rests.course in
+    let serves = not_active_serves s.entries s.rests.acknowledged r.shown s.rests.txns s.rests.course call in
     let shown : r'.shown ≡ r.shown = ap (λ (x : Open). x.shown) kept in
     let then : Resting number r' now (moved n (Client 0 call) (says.NotActive 0 ∷ [])) = record {
       entries = s.entries;
-      rests = record { acknowledged = s.rests.acknowledged; txns = serves.1.0; was_active = s.rests.was_active; is = serves.1.1 ∙ ap (λ k. standing s.entries s.rests.acknowledged (resting k) serves.1.0 s.rests.was_active) (sym shown) };
+      rests = record {
+        acknowledged = s.rests.acknowledged;
+        txns = serves.1.0;
+        course = s.rests.course;
+        is = serves.1.1 ∙ ap (λ k. standing s.entries s.rests.acknowledged (resting s.rests.course k) serves.1.0 s.rests.course) (sym shown);
+        ruled = s.rests.ruled;
+        past = serves.1.2.0 s.rests.course s.entries s.rests.acknowledged s.rests.past;
+      };
       log = s.log;
       is_open = is_open;
-      sound = sound_later s.entries last number s.log (omega (arith, later)) s.sound;
-      stable = ap (λ (x : Open). x.stable.0) kept ∙ s.stable;
+      sound = sound_later s.entries serves.1.0 s.rests.course last number s.log (omega (arith, later)) (sound_txns s.entries s.rests.txns serves.1.0 s.rests.course last s.log (serves.1.2.1 s.entries) s.sound);
+      hidden = s.hidden;
+      shows = subst (λ (lsn : Lsn). commits_to lsn.0 s.log.records ++ s.hidden ≡ map as_commit s.entries) (sym (ap (λ (x : Open). x.stable) kept)) s.shows;
       few = let k = s.few in omega (arith, k, later, begins);
     } in
-    let holds : StillHolds n now = begins_still s.entries s.rests.acknowledged (resting r.shown) s.rests.txns s.rests.was_active now refl (of_one s.entries now s.log is_open.stands (s.sound.more, s.sound.holds)) in
+    let holds : StillHolds n now = begins_still s.entries s.rests.acknowledged (resting s.rests.course r.shown) s.rests.txns s.rests.course now refl (of_one s.entries now s.log is_open.stands (s.sound.more, s.sound.holds)) in
     let P : Machine → Type 0 = λ k. IsServed number r' now call (says.NotActive 0 ∷ []) k in
     let Q : List Observation → Type 0 = λ ls. IsServed number r' now call ls m in
-    subst Q (sym given) (subst P (sym s.rests.is) (serves.0, as_other number r' now (moved n (Client 0 call) (says.NotActive 0 ∷ [])) (ap (λ (x : Open). x.role) kept ∙ role) then, holds))
+    let continues : Continues 0 n (moved n (Client 0 call) (says.NotActive 0 ∷ [])) = subst (Continues 0 n) (sym serves.1.1) (continues_standing s.entries s.rests.acknowledged s.rests.acknowledged (resting s.rests.course r.shown) (resting s.rests.course r.shown) s.rests.txns serves.1.0 s.rests.course 0 refl refl refl) in
+    subst Q (sym given) (subst P (sym s.rests.is) (serves.0, as_other number r' now (moved n (Client 0 call) (says.NotActive 0 ∷ [])) (ap (λ (x : Open). x.role) kept ∙ role) then, holds, continues))
 
 -- ---- at one that serves
 
@@ -161,7 +184,7 @@ AreRecorded f = (t : TxnId) (g : Going) → going_of f t ≡ Some g → (g.last.
 
 -- a call that is answered
 told_done : (last number : ℕ) (r r' : Open) (call : Call) (before now : Areas → Type 0) (lines : List Observation) (given : Reply) (m : Machine) (epoch : Epoch) (active : Bool) → last < number → r.role ≡ Primary epoch active → (s : Serving last r before m) → IsDone r r' call before now lines → reply r call ≡ Some given →
-    IsWhole m (Client 0 call) (given.answer ∷ []) → RunsWith s.runs.entries r'.front r.shown r.contents (moved m (Client 0 call) (given.answer ∷ [])) → KeepsAll r (called r call) → committed_by r (steps.Client call) ≡ [] → r'.front.begins ≤ number → AreRecorded r'.front → IsServed number r' now call lines m
+    IsWhole m (Client 0 call) (given.answer ∷ []) → RunsWith s.runs.entries s.runs.course r'.front r.shown r.contents (moved m (Client 0 call) (given.answer ∷ [])) → KeepsAll r (called r call) → committed_by r (steps.Client call) ≡ [] → r'.front.begins ≤ number → AreRecorded r'.front → IsServed number r' now call lines m
 told_done last number r r' call before now lines given m epoch active later role s d says_so whole runs keeps no_commit few recorded =
     let event = steps.Client call in
     let quiet = told_is r call given says_so in
@@ -173,19 +196,22 @@ told_done last number r r' call before now lines given m epoch active later role
     let shown : r.shown ≡ r'.shown = sym (ap (λ (x : Open). x.shown) kept ∙ keeps.shown) in
     let contents : r.contents ≡ r'.contents = sym (ap (λ (x : Open). x.contents) kept ∙ keeps.contents) in
     let n : Machine = moved m (Client 0 call) (given.answer ∷ []) in
-    let runs_now : RunsWith s.runs.entries r'.front r'.shown r'.contents n = subst (λ k. RunsWith s.runs.entries r'.front k r'.contents n) shown (subst (λ c. RunsWith s.runs.entries r'.front r.shown c n) contents runs) in
+    let runs_now : RunsWith s.runs.entries s.runs.course r'.front r'.shown r'.contents n = subst (λ k. RunsWith s.runs.entries s.runs.course r'.front k r'.contents n) shown (subst (λ c. RunsWith s.runs.entries s.runs.course r'.front r.shown c n) contents runs) in
+    let fence : IsFence s.runs.course r'.fence = subst (λ (x : Open). IsFence s.runs.course x.fence) (sym kept) (fence_called s.runs.course r call s.fence (latest_low s.runs.course r.epoch s.epoch)) in
     let then : Serving number r' now n = record {
       runs = runs_now.0;
+      ruled = subst IsCourse (sym runs_now.1.1) s.ruled;
       log = log1;
       is_open = is_open;
-      epoch = ap (λ (x : Open). x.epoch) kept ∙ (keeps.epoch ∙ s.epoch);
-      commits = ap (map as_commit) runs_now.1 ∙ commits;
+      epoch = ap (λ (x : Open). x.epoch) kept ∙ (keeps.epoch ∙ (s.epoch ∙ ap (λ (c : Course). c.latest) (sym runs_now.1.1)));
+      fence = subst (λ c. IsFence c r'.fence) (sym runs_now.1.1) fence;
+      commits = ap (map as_commit) runs_now.1.0 ∙ commits;
       short = short;
       few = few;
       recorded = recorded;
     } in
     let Q : List Observation → Type 0 = λ ls. IsServed number r' now call ls m in
-    subst Q (sym (d.lines ∙ quiet.lines)) (whole, as_primary number r' now n epoch active (ap (λ (x : Open). x.role) kept ∙ (keeps.role ∙ role)) then, holds_from last r before now m log1 s is_open.stands (begins_all s.runs.entries log1 commits))
+    subst Q (sym (d.lines ∙ quiet.lines)) (whole, as_primary number r' now n epoch active (ap (λ (x : Open). x.role) kept ∙ (keeps.role ∙ role)) then, holds_from last r before now m log1 s is_open.stands (begins_all s.runs.entries log1 commits), continues_runs r.front r'.front r.shown r'.shown r.contents r'.contents m n (most_shown (given.answer ∷ [])) s.runs runs_now (answer_shows given.answer (reply_answers r call given says_so)))
 
 -- what goes on is recorded as before, but for one transaction
 pub recorded_at : (f f' : Fronted) (begins : ℕ) (t : TxnId) (then : Option Going) (grants : _) → ChangesAt f f' begins t then grants → AreRecorded f → ((g : Going) → then ≡ Some g → (g.last.0 == 0) ≡ (length g.ops == 0)) → AreRecorded f'
@@ -269,7 +295,7 @@ ended_done last number r r' call t before now lines m epoch active later role na
     let alike : AreAlike r'.front r.front = subst (λ (x : Open). AreAlike r'.front x.front) then d.alike in
     let serves = ended_serves r.front r.shown r.contents m call t named s.runs none in
     let begins : r'.front.begins ≡ r.front.begins = ap (λ (f : Fronted). f.begins) alike.same in
-    told_done last number r r' call before now lines (plain (says.Ended t)) m epoch active later role s d says_so serves.0 (runs_alike s.runs.entries r.front r'.front r.shown r.contents (moved m (Client 0 call) (says.Ended t ∷ [])) alike serves.1)
+    told_done last number r r' call before now lines (plain (says.Ended t)) m epoch active later role s d says_so serves.0 (runs_alike s.runs.entries s.runs.course r.front r'.front r.shown r.contents (moved m (Client 0 call) (says.Ended t ∷ [])) alike serves.1)
     (record { shown = ap (λ (x : Open). x.shown) is; contents = ap (λ (x : Open). x.contents) is; role = ap (λ (x : Open). x.role) is; epoch = ap (λ (x : Open). x.epoch) is })
     (none_commits r call t on named none) (let k = s.few in omega (arith, k, begins, later))
     (λ u g e. s.recorded u g (sym (ap (λ (f : Fronted). going_of f u) alike.same) ∙ e))
@@ -310,7 +336,7 @@ collection_called r call on in_one = cond-true (is_active r.role) (answered (len
     by (Commit u) n i = absurd i
     by (Abort u) n i = absurd i
 
-collection_commits : (r : Open) (call : Call) → IsInCollection call → committed_by r (steps.Client call) ≡ []
+pub collection_commits : (r : Open) (call : Call) → IsInCollection call → committed_by r (steps.Client call) ≡ []
 collection_commits r Begin i = refl
 collection_commits r (Make u name kind) i = refl
 collection_commits r (Get u name key) i = refl

@@ -11,6 +11,7 @@ use Rattle.coll_model.specs.Effect.{State}
 use Rattle.order_machine.specs.Machine.{Machine}
 use Rattle.txn_front.specs.Front.{Fronted, Going, going_of, AreAlike}
 use Rattle.world.specs.Running.{IsKept, state_of, running, Runs, RunsWith}
+use Rattle.world.specs.Standing.{Course}
 
 -- It has begun so many, what goes on under this name is this, and it has these grants, whatever the order between grants of
 -- different names is. All else is as it was.
@@ -27,15 +28,16 @@ pub at_other : (old new : Fronted) (begins : ℕ) (t : TxnId) (then : Option Goi
 at_other old new begins t then grants c u other = c.lookup u ∙ ap (λ b. cond b then (going_of old u)) other
 
 -- another transaction is kept as it was, where it is protected still
-pub kept_other : (old new : Fronted) (begins : ℕ) (t : TxnId) (then : Option Going) (given grants now : List Grant) (entries : List Entry) (acknowledged : List TxnId) → ChangesAt old new begins t then given → old.begins ≤ begins
-    → (u : TxnId) (y : Txn) → is_txn u t ≡ false → IsKept old grants entries acknowledged u y → (AreProtected grants u (state_of entries) y.calls → AreProtected now u (state_of entries) y.calls) → IsKept new now entries acknowledged u y
-kept_other old new begins t then given grants now entries acknowledged c more u y other k protected =
+pub kept_other : (old new : Fronted) (begins : ℕ) (t : TxnId) (then : Option Going) (given grants now : List Grant) (entries : List Entry) (acknowledged : List TxnId) (course : Course) → ChangesAt old new begins t then given → old.begins ≤ begins
+    → (u : TxnId) (y : Txn) → is_txn u t ≡ false → IsKept course old grants entries acknowledged u y → (AreProtected grants u (state_of entries) y.calls → AreProtected now u (state_of entries) y.calls) → IsKept course new now entries acknowledged u y
+kept_other old new begins t then given grants now entries acknowledged course c more u y other k protected =
     let same = at_other old new begins t then given c u other in
     record {
       home = k.home;
-      epoch = k.epoch;
-      begun = let b = k.begun in let n = c.begins_now in grind (arith, b, n, more);
+      within = k.within;
+      begun = λ h. let b = k.begun h in let n = c.begins_now in omega (arith, b, n, more);
       on = k.on ∙ ap is_some (sym same);
+      here = k.here;
       asked = k.asked;
       not_held = k.not_held;
       not_acknowledged = k.not_acknowledged;
@@ -48,14 +50,15 @@ abbrev pub with_call : Txn → Noted → Txn
 with_call x c = record x { calls = x.calls ++ c ∷ [] }
 
 -- the machine runs as well over a front that is alike
-pub runs_alike : (entries : List Entry) (front new : Fronted) (shown : ℕ) (contents : State) (m : Machine) → AreAlike new front → RunsWith entries front shown contents m → RunsWith entries new shown contents m
-runs_alike entries front new shown contents m a runs = (
+pub runs_alike : (entries : List Entry) (course : Course) (front new : Fronted) (shown : ℕ) (contents : State) (m : Machine) → AreAlike new front → RunsWith entries course front shown contents m → RunsWith entries course new shown contents m
+runs_alike entries course front new shown contents m a runs = (
   record {
     entries = h.entries;
     acknowledged = h.acknowledged;
     txns = h.txns;
     grants = h.grants;
-    is = h.is ∙ ap (λ n. running h.entries h.acknowledged h.txns n h.grants) (sym begins);
+    course = h.course;
+    is = h.is ∙ ap (λ n. running h.entries h.acknowledged h.txns n h.grants h.course) (sym begins);
     epoch = ap (λ (f : Fronted). f.epoch) a.same ∙ h.epoch;
     alike = λ name. h.alike name ∙ sym (a.grants name);
     exclusive = h.exclusive;
@@ -63,9 +66,10 @@ runs_alike entries front new shown contents m a runs = (
     sees = h.sees;
     each = λ u x e. let k = h.each u x e in record {
       home = k.home;
-      epoch = k.epoch;
-      begun = let b = k.begun in omega (arith, b, begins);
+      within = k.within;
+      begun = λ same. let b = k.begun same in omega (arith, b, begins);
       on = k.on ∙ ap is_some (sym (goes u));
+      here = k.here;
       asked = k.asked;
       not_held = k.not_held;
       not_acknowledged = k.not_acknowledged;
@@ -74,7 +78,8 @@ runs_alike entries front new shown contents m a runs = (
     };
     live_known = λ u g is. h.live_known u g (sym (goes u) ∙ is);
     held = h.held;
-    held_begun = λ u e. let n = h.held_begun u e in omega (arith, n, begins);
+    held_within = h.held_within;
+    held_begun = λ u e same. let n = h.held_begun u e same in omega (arith, n, begins);
   },
   runs.1,
 )

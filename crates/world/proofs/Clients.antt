@@ -1,5 +1,5 @@
 -- Client calls, in terms of what a world keeps.
-use Rattle.std.proofs.Common.{◌≡◌, sym, subst, ℕ, ◌<◌, ◌≤◌, Bool, true, false, MatchBool, List, [], ◌∷◌, ◌++◌, Option, Some, None, Result, Ok, Err, IfOk, OnOk, OnErr, ◌*◌, refl, arith}
+use Rattle.std.proofs.Common.{◌≡◌, sym, ap, subst, ℕ, max, ◌<◌, ◌≤◌, true, false, List, [], ◌∷◌, ◌++◌, Option, Some, None, Result, Ok, Err, IfOk, OnOk, OnErr, ◌*◌, refl, arith}
 use Rattle.disk_model.specs.Disk.{Areas}
 use Rattle.log_store.specs.declared.kept.Kept.{Kept as Log}
 use Rattle.script_text.specs.declared.event.Event.TheVariants.{Client}
@@ -15,15 +15,16 @@ use Rattle.replica.specs.Open.{Open}
 use Rattle.replica.specs.Step.{CallFits}
 use Rattle.world.specs.declared.error.WorldError.{WorldError}
 use Rattle.world.specs.declared.error.WorldError.TheVariants as errors
-use Rattle.world.specs.Kept.{Kept}
+use Rattle.world.specs.Kept.{Kept, has_booted}
 use Rattle.world.specs.Standing.{standing, shut}
-use Rattle.world.specs.Steps.{IsCutOff, HoldsSome}
-use Rattle.world.specs.World.{StandsFor, Serves, IsNew, IsOpen, Closed, AsRole, AsReplica, StillHolds}
+use Rattle.world.specs.Steps.{most_shown, shown_by, IsCutOff, HoldsSome}
+use Rattle.world.specs.World.{StandsFor, Serves, IsNew, IsRuled, IsOpen, Closed, AsRole, AsReplica, StillHolds}
 use Rattle.world.proofs.Calls.{IsDone}
 use Rattle.world.proofs.CommitCalls.{call_done}
 use Rattle.world.proofs.CutOff.{call_cut, call_short}
+use Rattle.world.proofs.Later.{new_of, replica_of, ruled_of, as_replica, as_new, closed_of, closed_stands, ruled_on, ruled_still, Continues, continues_standing}
 use Rattle.world.proofs.Refusals.{refused_serves}
-use Rattle.world.proofs.Sound.{sound_later}
+use Rattle.world.proofs.Sound.{sound_later, sound_txns}
 use Rattle.world.proofs.Still.{stands_still}
 use Rattle.world.proofs.Unserved.{down_serves}
 
@@ -31,66 +32,83 @@ use Rattle.world.proofs.Unserved.{down_serves}
 abbrev pub ServesCall : Kept → Kept → (Areas → Type 0) → (Areas → Type 0) → Call → List Observation → Type 0
 ServesCall old new before now call lines = (m : Machine) → StandsFor old before m → IsWhole m (Client 0 call) lines × StandsFor new now (moved m (Client 0 call) lines) × StillHolds m now
 
-abbrev pub kept : ℕ → Bool → Option Open → Kept
-kept last booted replica = record { last = last; booted = booted; replica = replica }
+-- behind an event with these lines
+abbrev pub kept : Kept → ℕ → Option Open → List Observation → Kept
+kept k number replica lines = record k { last = number; order = max k.order (most_shown lines); replica = replica }
 
 -- ---- a booted world
 
-stands_open : (k : Kept) (r : Open) (images : Areas → Type 0) (m : Machine) → k.booted ≡ true → k.replica ≡ Some r → StandsFor k images m → AsReplica (Some r) k.last images m
-stands_open k r images m booted there s = rw (booted, there) at s
+stands_open : (k : Kept) (r : Open) (images : Areas → Type 0) (m : Machine) → has_booted k ≡ true → k.replica ≡ Some r → StandsFor k images m → AsReplica (Some r) k.last images m
+stands_open k r images m booted there s = subst (λ o. AsReplica o k.last images m) there (replica_of k images m booted s)
 
-pub client_done : (k : Kept) (number : ℕ) (r r' : Open) (call : Call) (before now : Areas → Type 0) (lines : List Observation) → k.booted ≡ true → k.replica ≡ Some r → k.last < number → IsDone r r' call before now lines → ServesCall k (kept number k.booted (Some r')) before now call lines
+pub client_done : (k : Kept) (number : ℕ) (r r' : Open) (call : Call) (before now : Areas → Type 0) (lines : List Observation) → has_booted k ≡ true → k.replica ≡ Some r → k.last < number → IsDone r r' call before now lines → ServesCall k (kept k number (Some r') lines) before now call lines
 client_done k number r r' call before now lines booted there later d m s =
     let done = call_done k.last number r r' call before now lines m later (stands_open k r before m booted there s) d in
-    (done.0, rw booted done.1, done.2)
+    let new : Kept = kept k number (Some r') lines in
+    let n : Machine = moved m (Client 0 call) lines in
+    (done.0, as_replica new now n booted done.1 (ruled_on k new m n (most_shown lines) refl refl done.3 (ruled_of k before m booted s)), done.2)
 
-pub client_cut : (k : Kept) (number : ℕ) (r : Open) (call : Call) (before now : Areas → Type 0) (lines given : List Observation) → k.booted ≡ true → k.replica ≡ Some r → k.last < number → CallFits call → ((log : Log) → IsOpen r log before → IsCutOff r (steps.Client call) log [] lines now) → given ≡ lines ++ says.Fault 0 ∷ [] → ServesCall k (kept number k.booted None) before now call given
+-- a line that tells a fault shows nothing
+pub most_faulted : (lines : List Observation) → most_shown (lines ++ says.Fault 0 ∷ []) ≡ most_shown lines
+most_faulted [] = refl
+most_faulted (line ∷ lines) = ap (max (shown_by line)) (most_faulted lines)
+
+pub client_cut : (k : Kept) (number : ℕ) (r : Open) (call : Call) (before now : Areas → Type 0) (lines given : List Observation) → has_booted k ≡ true → k.replica ≡ Some r → k.last < number → CallFits call → ((log : Log) → IsOpen r log before → IsCutOff r (steps.Client call) log [] lines now) → given ≡ lines ++ says.Fault 0 ∷ [] → ServesCall k (kept k number None lines) before now call given
 client_cut k number r call before now lines given booted there later fits cut is m s =
     let done = call_cut k.last number r call before now lines m later fits (stands_open k r before m booted there s) cut in
-    let P : List Observation → Type 0 = λ ls. IsWhole m (Client 0 call) ls × StandsFor (kept number k.booted None) now (moved m (Client 0 call) ls) × StillHolds m now in
-    subst P (sym is) (done.0, rw booted done.1, done.2)
+    let new : Kept = kept k number None lines in
+    let told : List Observation = lines ++ says.Fault 0 ∷ [] in
+    let n : Machine = moved m (Client 0 call) told in
+    let ruled : IsRuled new n = ruled_on k new m n (most_shown told) refl (ap (max k.order) (sym (most_faulted lines))) done.3 (ruled_of k before m booted s) in
+    let P : List Observation → Type 0 = λ ls. IsWhole m (Client 0 call) ls × StandsFor new now (moved m (Client 0 call) ls) × StillHolds m now in
+    subst P (sym is) (done.0, as_replica new now n booted done.1 ruled, done.2)
 
 -- also where the line of the fault found no memory
-pub client_cut_still : (k : Kept) (number : ℕ) (r : Open) (call : Call) (before now : Areas → Type 0) (lines : List Observation) → k.booted ≡ true → k.replica ≡ Some r → k.last < number → CallFits call → ((log : Log) → IsOpen r log before → IsCutOff r (steps.Client call) log [] lines now) → (m : Machine) → StandsFor k before m → StillHolds m now
+pub client_cut_still : (k : Kept) (number : ℕ) (r : Open) (call : Call) (before now : Areas → Type 0) (lines : List Observation) → has_booted k ≡ true → k.replica ≡ Some r → k.last < number → CallFits call → ((log : Log) → IsOpen r log before → IsCutOff r (steps.Client call) log [] lines now) → (m : Machine) → StandsFor k before m → StillHolds m now
 client_cut_still k number r call before now lines booted there later fits cut m s =
     (call_cut k.last number r call before now lines m later fits (stands_open k r before m booted there s) cut).2
 
-pub client_short : (k : Kept) (r : Open) (call : Call) (before now : Areas → Type 0) → k.booted ≡ true → k.replica ≡ Some r → CallFits call → ((log : Log) → IsOpen r log before → HoldsSome r (steps.Client call) log now) → (m : Machine) → StandsFor k before m → StillHolds m now
+pub client_short : (k : Kept) (r : Open) (call : Call) (before now : Areas → Type 0) → has_booted k ≡ true → k.replica ≡ Some r → CallFits call → ((log : Log) → IsOpen r log before → HoldsSome r (steps.Client call) log now) → (m : Machine) → StandsFor k before m → StillHolds m now
 client_short k r call before now booted there fits some m s = call_short k.last r call before now m fits (stands_open k r before m booted there s) some
 
 -- ---- a closed replica, and the time before the boot
 
-closed_of : (k : Kept) (images : Areas → Type 0) (m : Machine) → k.booted ≡ true → k.replica ≡ None → StandsFor k images m → Closed k.last images m
-closed_of k images m booted none s = rw (booted, none) at s
-
-pub client_down : (k : Kept) (number : ℕ) (call : Call) (images : Areas → Type 0) (lines : List Observation) → k.booted ≡ true → k.replica ≡ None → k.last < number → lines ≡ says.Down 0 ∷ [] → ServesCall k (record k { last = number }) images images call lines
+pub client_down : (k : Kept) (number : ℕ) (call : Call) (images : Areas → Type 0) (lines : List Observation) → has_booted k ≡ true → k.replica ≡ None → k.last < number → lines ≡ says.Down 0 ∷ [] → ServesCall k (record k { last = number }) images images call lines
 client_down k number call images lines booted none later is m s =
     let c = closed_of k images m booted none s in
     let shut_there = c.is_shut in
-    let serves = down_serves c.entries shut_there.acknowledged shut_there.shown shut_there.txns shut_there.was_active call in
-    let n : Machine = standing c.entries shut_there.acknowledged (shut shut_there.shown) shut_there.txns shut_there.was_active in
+    let serves = down_serves c.entries shut_there.acknowledged shut_there.shown shut_there.txns shut_there.course call in
+    let n : Machine = standing c.entries shut_there.acknowledged (shut shut_there.course shut_there.shown) shut_there.txns shut_there.course in
+    let new : Kept = record k { last = number } in
     let then : Closed number images (moved n (Client 0 call) (says.Down 0 ∷ [])) = record {
       entries = c.entries;
-      is_shut = record { acknowledged = shut_there.acknowledged; txns = serves.1.0; was_active = shut_there.was_active; shown = shut_there.shown; is = serves.1.1 };
-      sound = λ a held. let l = c.sound a held in (l.0, l.1, sound_later c.entries k.last number l.0 (omega (arith, later)) l.2);
+      is_shut = record {
+        acknowledged = shut_there.acknowledged;
+        txns = serves.1.0;
+        course = shut_there.course;
+        shown = shut_there.shown;
+        is = serves.1.1;
+        ruled = shut_there.ruled;
+        past = serves.1.2.0 shut_there.course c.entries shut_there.acknowledged shut_there.past;
+      };
+      sound = λ a held. let l = c.sound a held in (l.0, l.1, sound_later c.entries serves.1.0 shut_there.course k.last number l.0 (omega (arith, later)) (sound_txns c.entries shut_there.txns serves.1.0 shut_there.course k.last l.0 (serves.1.2.1 c.entries) l.2));
     } in
-    let P : Machine → Type 0 = λ at. IsWhole at (Client 0 call) (says.Down 0 ∷ []) × Closed number images (moved at (Client 0 call) (says.Down 0 ∷ [])) in
-    let all : P m = subst P (sym shut_there.is) (serves.0, then) in
-    let Q : List Observation → Type 0 = λ ls. IsWhole m (Client 0 call) ls × StandsFor (record k { last = number }) images (moved m (Client 0 call) ls) × StillHolds m images in
-    subst Q (sym is) (all.0, rw (booted, none) all.1, stands_still k images m s)
+    let continues : Continues 0 n (moved n (Client 0 call) (says.Down 0 ∷ [])) = subst (Continues 0 n) (sym serves.1.1) (continues_standing c.entries shut_there.acknowledged shut_there.acknowledged (shut shut_there.course shut_there.shown) (shut shut_there.course shut_there.shown) shut_there.txns serves.1.0 shut_there.course 0 refl refl refl) in
+    let P : Machine → Type 0 = λ at. IsWhole at (Client 0 call) (says.Down 0 ∷ []) × Closed number images (moved at (Client 0 call) (says.Down 0 ∷ [])) × Continues 0 at (moved at (Client 0 call) (says.Down 0 ∷ [])) in
+    let all : P m = subst P (sym shut_there.is) (serves.0, then, continues) in
+    let stands : StandsFor new images (moved m (Client 0 call) (says.Down 0 ∷ [])) = closed_stands new images (moved m (Client 0 call) (says.Down 0 ∷ [])) booted none all.1 (ruled_still k new m (moved m (Client 0 call) (says.Down 0 ∷ [])) refl refl all.2 (ruled_of k images m booted s)) in
+    let Q : List Observation → Type 0 = λ ls. IsWhole m (Client 0 call) ls × StandsFor new images (moved m (Client 0 call) ls) × StillHolds m images in
+    subst Q (sym is) (all.0, stands, stands_still k images m s)
 
-new_of : (k : Kept) (images : Areas → Type 0) (m : Machine) → k.booted ≡ false → StandsFor k images m → IsNew k images m
-new_of k images m booted s = subst (λ b. MatchBool b (AsReplica k.replica k.last images m) (IsNew k images m)) booted s
-
-pub client_new : (k : Kept) (number : ℕ) (call : Call) (images : Areas → Type 0) (lines : List Observation) → k.booted ≡ false → lines ≡ says.Refused 9 ∷ [] → ServesCall k (record k { last = number }) images images call lines
+pub client_new : (k : Kept) (number : ℕ) (call : Call) (images : Areas → Type 0) (lines : List Observation) → has_booted k ≡ false → lines ≡ says.Refused 9 ∷ [] → ServesCall k (record k { last = number }) images images call lines
 client_new k number call images lines booted is m s =
     let new = new_of k images m booted s in
     let serves = refused_serves empty_machine (Client 0 call) (says.Refused 9) refl in
     let P : Machine → Type 0 = λ at. IsWhole at (Client 0 call) (says.Refused 9 ∷ []) × (moved at (Client 0 call) (says.Refused 9 ∷ []) ≡ empty_machine) in
     let all : P m = subst P (sym new.is) (serves.0, serves.1) in
-    let then : IsNew (record k { last = number }) images (moved m (Client 0 call) (says.Refused 9 ∷ [])) = record { is = all.1; closed = new.closed; empty = new.empty } in
+    let then : IsNew (record k { last = number }) images (moved m (Client 0 call) (says.Refused 9 ∷ [])) = record { is = all.1; closed = new.closed; unordered = new.unordered; empty = new.empty } in
     let Q : List Observation → Type 0 = λ ls. IsWhole m (Client 0 call) ls × StandsFor (record k { last = number }) images (moved m (Client 0 call) ls) × StillHolds m images in
-    subst Q (sym is) (all.0, subst (λ b. MatchBool b (AsReplica k.replica number images (moved m (Client 0 call) (says.Refused 9 ∷ []))) (IsNew (record k { last = number }) images (moved m (Client 0 call) (says.Refused 9 ∷ [])))) (sym booted) then, stands_still k images m s)
+    subst Q (sym is) (all.0, as_new (record k { last = number }) images (moved m (Client 0 call) (says.Refused 9 ∷ [])) booted then, stands_still k images m s)
 
 -- ---- what the steps of a call need
 
@@ -99,7 +117,7 @@ role_there Other last r images m s = ((s.log, s.is_open), (let l = s.is_open.agr
 role_there (Primary epoch active) last r images m s = ((s.log, s.is_open), (let l = s.is_open.agrees.last in let k = s.short in omega (arith, l, k), s.few))
 
 -- an open replica of a booted world, with its log
-pub client_there : (k : Kept) (r : Open) (images : Areas → Type 0) (m : Machine) → k.booted ≡ true → k.replica ≡ Some r → StandsFor k images m → ((log : Log) × IsOpen r log images) × ((r.last.0 ≤ 3 * k.last) × (r.front.begins ≤ k.last))
+pub client_there : (k : Kept) (r : Open) (images : Areas → Type 0) (m : Machine) → has_booted k ≡ true → k.replica ≡ Some r → StandsFor k images m → ((log : Log) × IsOpen r log images) × ((r.last.0 ≤ 3 * k.last) × (r.front.begins ≤ k.last))
 client_there k r images m booted there s = role_there r.role k.last r images m (stands_open k r images m booted there s)
 
 -- ---- results

@@ -1,5 +1,5 @@
 -- Commits at replica 0, and each kind of client call.
-use Rattle.std.proofs.Common.{◌≡◌, ◌∙◌, sym, ap, subst, ℕ, ◌+◌, ◌*◌, ◌<◌, ◌≤◌, Bool, true, false, cond, List, [], ◌∷◌, ◌++◌, length, map, Option, Some, None, refl, arith, append-nil}
+use Rattle.std.proofs.Common.{◌≡◌, ◌∙◌, sym, ap, subst, ℕ, ◌+◌, ◌*◌, ◌<◌, ◌≤◌, Bool, true, false, cond, List, [], ◌∷◌, ◌++◌, length, map, Option, Some, None, refl, arith, append-nil, length-append, max}
 use Rattle.std.specs.Option.{option_map_or}
 use Rattle.std.proofs.lemmas.List.{map-append}
 use Rattle.std.proofs.lemmas.Option.{none-some}
@@ -30,8 +30,10 @@ use Rattle.replica.specs.Step.{MayStep, reply, is_active, logged_by, lengthened,
 use Rattle.txn_front.specs.Front.{Fronted, Going, going_of, told, txn_at, IsOver, AreAlike}
 use Rattle.txn_front.specs.Front as front
 use Rattle.world.specs.Disks.{as_commit}
-use Rattle.world.specs.Running.{RunsWith}
-use Rattle.world.specs.Steps.{finished, log_once, log_twice}
+use Rattle.world.specs.Course.{IsCourse, IsFence}
+use Rattle.world.specs.Running.{running, Runs, RunsWith}
+use Rattle.world.specs.Standing.{Course}
+use Rattle.world.specs.Steps.{finished, log_once, log_twice, most_shown}
 use Rattle.world.specs.World.{IsOpen, Serving, AsRole, AsReplica}
 use Rattle.world.proofs.Aborted.{Ends}
 use Rattle.world.proofs.Asked.{IsInCollection, going_told}
@@ -39,6 +41,8 @@ use Rattle.world.proofs.Commit.{entry_of, with_entry, lines_of, commit_serves}
 use Rattle.world.proofs.FrontChanges.{changes_alike, ends_changes}
 use Rattle.world.proofs.Plain.{IsCommitted, committed_is, committed_open, lengthened_role, lengthened_epoch}
 use Rattle.world.proofs.Calls.{over, IsDone, IsServed, as_primary, primary_active, active_reply, longer, holds_from, rests_done, begin_done, ended_done, asked_done, aborted_done, recorded_at}
+use Rattle.world.proofs.Later.{Continues}
+use Rattle.world.proofs.Logged.{fence_lengthened, latest_low}
 use Rattle.world.proofs.Sound.{BeginsWith}
 use Rattle.replica.proofs.Lengthened.{commits_after, shows_after, steps_to, logged_few}
 
@@ -85,6 +89,18 @@ entries_more entries e commits now same more = map-append as_commit entries (e �
 pub begins_less : (entries : List Entry) (e : Entry) (log : Log) (commits : List Committed) → map as_commit entries ≡ commits → commits_in log.records ≡ commits ++ as_commit e ∷ [] → BeginsWith entries log
 begins_less entries e log commits same more = (as_commit e ∷ [], ap (λ cs. cs ++ as_commit e ∷ []) same ∙ sym more)
 
+-- the order has grown by one, which is shown
+pub continues_commit : (front new : Fronted) (shown now_shown : ℕ) (contents state : State) (m n : Machine) (t : TxnId) (g : Going) (h : Runs front shown contents m) → RunsWith (with_entry h.entries t g) h.course new now_shown state n → Continues (most_shown (lines_of t g shown)) m n
+continues_commit front new shown now_shown contents state m n t g h w =
+    let k = w.0 in
+    let es : List Entry = with_entry h.entries t g in
+    let M : Machine = running h.entries h.acknowledged h.txns front.begins h.grants h.course in
+    let K : List Entry → Course → Machine = λ es c. running es k.acknowledged k.txns new.begins k.grants c in
+    let is : n ≡ K es h.course = k.is ∙ (ap (λ es. K es k.course) w.1.0 ∙ ap (K es) w.1.1) in
+    let count : 0 + length es ≡ max (0 + length h.entries) (most_shown (lines_of t g shown)) = let a = length-append h.entries (entry_of t g ∷ []) in let b = h.all_shown in grind (arith, a, b) in
+    let same : Continues (most_shown (lines_of t g shown)) M (K es h.course) = record { appointments = refl; config = refl; answers = refl; order = count } in
+    subst (λ a. Continues (most_shown (lines_of t g shown)) a n) (sym h.is) (subst (Continues (most_shown (lines_of t g shown)) M) (sym is) same)
+
 -- the replica behind both steps
 abbrev last_open : (r : Open) → TxnId → Going → Open
 last_open r t g = let x : Open = committed_open (length (logged_by r (Commit t))) t g r in lengthened 1 x.epoch x
@@ -108,22 +124,29 @@ commit_done last number r r' t g before now lines m epoch active later role is s
     let es : List Entry = with_entry s.runs.entries t g in
     let shown : r.shown + 1 ≡ r'.shown = sym (ap (λ (x : Open). x.shown) kept) in
     let contents : folded r.contents g.ops ≡ r'.contents = sym (ap (λ (x : Open). x.contents) kept) in
-    let runs_now : RunsWith es r'.front r'.shown r'.contents n = subst (λ k. RunsWith es r'.front k r'.contents n) shown (subst (λ x. RunsWith es r'.front (r.shown + 1) x n) contents serves.1) in
+    let runs_now : RunsWith es s.runs.course r'.front r'.shown r'.contents n = subst (λ k. RunsWith es s.runs.course r'.front k r'.contents n) shown (subst (λ x. RunsWith es s.runs.course r'.front (r.shown + 1) x n) contents serves.1) in
     let commits : map as_commit es ≡ commits_in log2.records = entries_more s.runs.entries (entry_of t g) (commits_in s.log.records) (commits_in log2.records) s.commits c.twice in
     let short : length log2.records ≤ 3 * number = let k = s.short in let l = c.long_twice in omega (arith, k, l, later) in
+    let low = latest_low s.runs.course r.epoch s.epoch in
+    let x : Open = committed_open count t g r in
+    let fence_once : IsFence s.runs.course x.fence = fence_lengthened s.runs.course count r s.fence low in
+    let fence : IsFence s.runs.course r'.fence = subst (λ (y : Open). IsFence s.runs.course y.fence) (sym kept) (fence_lengthened s.runs.course 1 x fence_once (latest_low s.runs.course x.epoch (lengthened_epoch count r ∙ s.epoch))) in
+    let continues : Continues (most_shown given) m n = continues_commit r.front r'.front r.shown r'.shown r.contents r'.contents m n t g s.runs runs_now in
     let done : Serving number r' now n = record {
       runs = runs_now.0;
+      ruled = subst IsCourse (sym runs_now.1.1) s.ruled;
       log = log2;
       is_open = is_open;
-      epoch = ap (λ (x : Open). x.epoch) kept ∙ (lengthened_epoch count r ∙ s.epoch);
-      commits = ap (map as_commit) runs_now.1 ∙ commits;
+      epoch = ap (λ (x : Open). x.epoch) kept ∙ (lengthened_epoch count r ∙ (s.epoch ∙ ap (λ (c : Course). c.latest) (sym runs_now.1.1)));
+      fence = subst (λ c. IsFence c r'.fence) (sym runs_now.1.1) fence;
+      commits = ap (map as_commit) runs_now.1.0 ∙ commits;
       short = short;
       few = let k = s.few in let b = ends.begins_now in omega (arith, k, b, later);
       recorded = recorded_at r.front r'.front r.front.begins t None _ ends s.recorded (λ h e. absurd (none-some h e));
     } in
     let Q : List Observation → Type 0 = λ ls. IsServed number r' now (Commit t) ls m in
     subst Q (sym lines_are)
-    (serves.0, as_primary number r' now n epoch active (ap (λ (x : Open). x.role) kept ∙ (lengthened_role count r ∙ role)) done, holds_from last r before now m log2 s is_open.stands (begins_less s.runs.entries (entry_of t g) log2 (commits_in s.log.records) s.commits c.twice))
+    (serves.0, as_primary number r' now n epoch active (ap (λ (x : Open). x.role) kept ∙ (lengthened_role count r ∙ role)) done, holds_from last r before now m log2 s is_open.stands (begins_less s.runs.entries (entry_of t g) log2 (commits_in s.log.records) s.commits c.twice), continues)
 
 -- ---- each kind of call at a primary
 

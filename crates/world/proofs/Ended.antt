@@ -19,6 +19,7 @@ use Rattle.order_machine.specs.Legal.{IsWhole, moved}
 use Rattle.txn_front.specs.Front.{Fronted, Going, going_of, told, txn_at}
 use Rattle.world.specs.Running.{Runs, RunsWith, IsKept}
 use Rattle.world.proofs.Answer.{answer_serves}
+use Rattle.world.proofs.Booted.{running_unrefused}
 use Rattle.world.proofs.Changed.{with_call}
 use Rattle.world.proofs.Quiet.{holds_behind, settled}
 use Rattle.world.proofs.Told.{machine_of, not_live, answer_told}
@@ -29,17 +30,18 @@ ended_call call t = record { call = call; answer = says.Ended t; op = None }
 
 -- a known transaction with one call more, which doesn't go on
 each_noted : (front : Fronted) (shown : ℕ) (contents : State) (m : Machine) (h : Runs front shown contents m) (t : TxnId) (x : Txn) (c : Noted) → lookup (is_txn t) h.txns ≡ Some x → going_of front t ≡ None →
-    (u : TxnId) (y : Txn) (b : Bool) → is_txn u t ≡ b → cond b (Some (with_call x c)) (lookup (is_txn u) h.txns) ≡ Some y → IsKept front h.grants h.entries h.acknowledged u y
+    (u : TxnId) (y : Txn) (b : Bool) → is_txn u t ≡ b → cond b (Some (with_call x c)) (lookup (is_txn u) h.txns) ≡ Some y → IsKept h.course front h.grants h.entries h.acknowledged u y
 each_noted front shown contents m h t x c known none u y true same e =
     let k = h.each t x known in
     let off : x.live ≡ false = k.on ∙ ap is_some none in
-    let P : TxnId → Type 0 = λ v. IsKept front h.grants h.entries h.acknowledged v y in
-    let Q : Txn → Type 0 = λ z. IsKept front h.grants h.entries h.acknowledged t z in
+    let P : TxnId → Type 0 = λ v. IsKept h.course front h.grants h.entries h.acknowledged v y in
+    let Q : Txn → Type 0 = λ z. IsKept h.course front h.grants h.entries h.acknowledged t z in
     subst P (sym (is_txn-true u t same)) (subst Q (same_Some (with_call x c) y e) (record {
       home = k.home;
-      epoch = k.epoch;
+      within = k.within;
       begun = k.begun;
       on = k.on;
+      here = k.here;
       asked = k.asked;
       not_held = k.not_held;
       not_acknowledged = k.not_acknowledged;
@@ -49,15 +51,16 @@ each_noted front shown contents m h t x c known none u y true same e =
 each_noted front shown contents m h t x c known none u y false other e = h.each u y e
 
 noted_runs : (front : Fronted) (shown : ℕ) (contents : State) (m : Machine) (t : TxnId) (c : Noted) (h : Runs front shown contents m) → going_of front t ≡ None →
-    (o : Option Txn) → lookup (is_txn t) h.txns ≡ o → RunsWith h.entries front shown contents (option_map_or (λ y. put_txn (machine_of h) t (with_call y c)) o (machine_of h))
+    (o : Option Txn) → lookup (is_txn t) h.txns ≡ o → RunsWith h.entries h.course front shown contents (option_map_or (λ y. put_txn (machine_of h) t (with_call y c)) o (machine_of h))
 unfolding settled
-noted_runs front shown contents m t c h none None e = (settled front shown contents m h, refl)
+noted_runs front shown contents m t c h none None e = (settled front shown contents m h, (refl, refl))
 noted_runs front shown contents m t c h none (Some x) e = (
   record {
     entries = h.entries;
     acknowledged = h.acknowledged;
     txns = (t, with_call x c) ∷ h.txns;
     grants = h.grants;
+    course = h.course;
     is = refl;
     epoch = h.epoch;
     alike = h.alike;
@@ -67,9 +70,10 @@ noted_runs front shown contents m t c h none (Some x) e = (
     each = λ u y known. each_noted front shown contents m h t x c e none u y (is_txn u t) refl known;
     live_known = λ u g is. live_noted u g is (is_txn u t) refl;
     held = h.held;
+    held_within = h.held_within;
     held_begun = h.held_begun;
   },
-  refl,
+  (refl, refl),
 )
   where
     live_noted : (u : TxnId) (g : Going) → going_of front u ≡ Some g → (b : Bool) → is_txn u t ≡ b → (y : Txn) × (cond b (Some (with_call x c)) (lookup (is_txn u) h.txns) ≡ Some y)
@@ -98,12 +102,12 @@ ended_told front contents call t named none =
     ∙ ap (λ o. option_map_or (λ going. live_reply front.grants (folded contents going.ops) t call) o (Some (plain (says.Ended t)))) none
 
 pub ended_serves : (front : Fronted) (shown : ℕ) (contents : State) (m : Machine) (call : Call) (t : TxnId) → txn_named call ≡ Some t → (h : Runs front shown contents m) → going_of front t ≡ None →
-    IsWhole m (Client 0 call) (says.Ended t ∷ []) × RunsWith h.entries front shown contents (moved m (Client 0 call) (says.Ended t ∷ []))
+    IsWhole m (Client 0 call) (says.Ended t ∷ []) × RunsWith h.entries h.course front shown contents (moved m (Client 0 call) (says.Ended t ∷ []))
 ended_serves front shown contents m call t named h none =
     let n : Machine = machine_of h in
     let gone : going_at n 0 t ≡ None = cond-false _ (lookup (is_txn t) h.txns) None (not_live front shown contents m h t none) in
-    let R : Option TxnId → Type 0 = λ o. RunsWith h.entries front shown contents (option_map_or (λ u. noted n u (ended_call call t)) o n) in
+    let R : Option TxnId → Type 0 = λ o. RunsWith h.entries h.course front shown contents (option_map_or (λ u. noted n u (ended_call call t)) o n) in
     let then = subst R (sym named) (noted_runs front shown contents m t (ended_call call t) h none (lookup (is_txn t) h.txns) refl) in
-    let P : Machine → Type 0 = λ at. IsWhole at (Client 0 call) (says.Ended t ∷ []) × RunsWith h.entries front shown contents (moved at (Client 0 call) (says.Ended t ∷ [])) in
+    let P : Machine → Type 0 = λ at. IsWhole at (Client 0 call) (says.Ended t ∷ []) × RunsWith h.entries h.course front shown contents (moved at (Client 0 call) (says.Ended t ∷ [])) in
     let says_so : told front contents call ≡ Some (plain (says.Ended t)) = ended_told front contents call t named none in
-    subst P (sym h.is) (answer_serves n n 0 call (says.Ended t) None (RunsWith h.entries front shown contents) refl (ended_asking n call t named gone) (answer_told front shown contents m h call ∙ says_so) refl (holds_behind _ _ _ _ then.0) then)
+    subst P (sym h.is) (answer_serves n n 0 call (says.Ended t) None (RunsWith h.entries h.course front shown contents) (running_unrefused front shown contents m h call) (ended_asking n call t named gone) (answer_told front shown contents m h call ∙ says_so) refl (holds_behind _ _ _ _ then.0) then)

@@ -19,34 +19,35 @@ use Rattle.order_machine.specs.Answers.{answer, seen}
 use Rattle.order_machine.specs.Rows.{Position, HoldsBehind, IsComplete, May, refusal, opened, at_start, asking, asking_locks, going_at, after, showing, logs, failed, is_boot, has_answer, with_first_role, new_role, first_epoch}
 use Rattle.order_machine.specs.Legal.{Lines, behind, IsServed, IsWhole, moved}
 use Rattle.order_machine.proofs.Lists.{at_written}
-use Rattle.world.specs.Standing.{serving, shut, standing}
+use Rattle.world.specs.Standing.{Course, serving, shut, standing}
+use Rattle.world.proofs.Booted.{call_unrefused}
 use Rattle.world.proofs.Served.{served_from}
 use Rattle.world.proofs.WithoutRole.{holds_without_role}
 
 -- ---- in the step of a call
 
 -- as a call is asked at most the transactions and the grants change
-abbrev Asked : List Entry → List TxnId → ℕ → ℕ → Bool → Machine → Type 0
-Asked entries acknowledged shown begins was_active m = (others : List (TxnId × Txn)) × ((grants : List Grant) × (m ≡ standing entries acknowledged (serving shown begins grants) others was_active))
+abbrev Asked : List Entry → List TxnId → ℕ → ℕ → Course → Machine → Type 0
+Asked entries acknowledged shown begins course m = (others : List (TxnId × Txn)) × ((grants : List Grant) × (m ≡ standing entries acknowledged (serving course shown begins grants) others course))
 
-by_going : (entries : List Entry) (acknowledged : List TxnId) (shown begins : ℕ) (was_active : Bool) (f : Txn → Machine) (m : Machine) → ((x : Txn) → Asked entries acknowledged shown begins was_active (f x)) → Asked entries acknowledged shown begins was_active m → (o : Option Txn) → Asked entries acknowledged shown begins was_active (option_map_or f o m)
-by_going entries acknowledged shown begins was_active f m each same None = same
-by_going entries acknowledged shown begins was_active f m each same (Some x) = each x
+by_going : (entries : List Entry) (acknowledged : List TxnId) (shown begins : ℕ) (course : Course) (f : Txn → Machine) (m : Machine) → ((x : Txn) → Asked entries acknowledged shown begins course (f x)) → Asked entries acknowledged shown begins course m → (o : Option Txn) → Asked entries acknowledged shown begins course (option_map_or f o m)
+by_going entries acknowledged shown begins course f m each same None = same
+by_going entries acknowledged shown begins course f m each same (Some x) = each x
 
-asking_stands : (entries : List Entry) (acknowledged : List TxnId) (shown begins : ℕ) (grants : List Grant) (txns : List (TxnId × Txn)) (was_active : Bool) (call : Call) →
-    Asked entries acknowledged shown begins was_active (asking (standing entries acknowledged (serving shown begins grants) txns was_active) 0 call)
-asking_stands entries acknowledged shown begins grants txns was_active call = by call
+asking_stands : (entries : List Entry) (acknowledged : List TxnId) (shown begins : ℕ) (grants : List Grant) (txns : List (TxnId × Txn)) (course : Course) (call : Call) →
+    Asked entries acknowledged shown begins course (asking (standing entries acknowledged (serving course shown begins grants) txns course) 0 call)
+asking_stands entries acknowledged shown begins grants txns course call = by call
   where
     m : Machine
-    m = standing entries acknowledged (serving shown begins grants) txns was_active
+    m = standing entries acknowledged (serving course shown begins grants) txns course
 
-    same : Asked entries acknowledged shown begins was_active m
+    same : Asked entries acknowledged shown begins course m
     same = (txns, (grants, refl))
 
-    locks : (t : TxnId) (c : Call) → Asked entries acknowledged shown begins was_active (asking_locks m 0 t c)
-    locks t c = by_going entries acknowledged shown begins was_active (λ x. put_grants m 0 (taken grants t (locks_at (seen m 0 x) c))) m (λ x. (txns, (taken grants t (locks_at (seen m 0 x) c), refl))) same (going_at m 0 t)
+    locks : (t : TxnId) (c : Call) → Asked entries acknowledged shown begins course (asking_locks m 0 t c)
+    locks t c = by_going entries acknowledged shown begins course (λ x. put_grants m 0 (taken grants t (locks_at (seen m 0 x) c))) m (λ x. (txns, (taken grants t (locks_at (seen m 0 x) c), refl))) same (going_at m 0 t)
 
-    by : (c : Call) → Asked entries acknowledged shown begins was_active (asking m 0 c)
+    by : (c : Call) → Asked entries acknowledged shown begins course (asking m 0 c)
     by Begin = same
     by (Make t name kind) = locks t (Make t name kind)
     by (Get t name key) = locks t (Get t name key)
@@ -54,28 +55,28 @@ asking_stands entries acknowledged shown begins grants txns was_active call = by
     by (Set t name key value) = locks t (Set t name key value)
     by (Add t name key value) = locks t (Add t name key value)
     by (Delete t name key) = locks t (Delete t name key)
-    by (Commit t) = by_going entries acknowledged shown begins was_active (λ x. put_txn m t (record x { live = false; asked = true })) m (λ x. ((t, record x { live = false; asked = true }) ∷ txns, (grants, refl))) same (going_at m 0 t)
-    by (Abort t) = by_going entries acknowledged shown begins was_active (λ x. put_txn (put_grants m 0 (released grants t)) t (record x { live = false })) m (λ x. ((t, record x { live = false }) ∷ txns, (released grants t, refl))) same (going_at m 0 t)
+    by (Commit t) = by_going entries acknowledged shown begins course (λ x. put_txn m t (record x { live = false; asked = true })) m (λ x. ((t, record x { live = false; asked = true }) ∷ txns, (grants, refl))) same (going_at m 0 t)
+    by (Abort t) = by_going entries acknowledged shown begins course (λ x. put_txn (put_grants m 0 (released grants t)) t (record x { live = false })) m (λ x. ((t, record x { live = false }) ∷ txns, (released grants t, refl))) same (going_at m 0 t)
 
 -- a fault stands in place of the answer of a call that logs
-pub call_faults : (entries : List Entry) (acknowledged : List TxnId) (shown begins : ℕ) (grants : List Grant) (txns : List (TxnId × Txn)) (was_active : Bool) (call : Call) →
-    (let m : Machine = standing entries acknowledged (serving shown begins grants) txns was_active in
+pub call_faults : (entries : List Entry) (acknowledged : List TxnId) (shown begins : ℕ) (grants : List Grant) (txns : List (TxnId × Txn)) (course : Course) (call : Call) →
+    (let m : Machine = standing entries acknowledged (serving course shown begins grants) txns course in
     logs (asking m 0 call) call (answer m 0 call) ≡ true →
     IsWhole m (Client 0 call) (says.Fault 0 ∷ [])
-    × ((others : List (TxnId × Txn)) × (moved m (Client 0 call) (says.Fault 0 ∷ []) ≡ standing entries acknowledged (shut shown) others was_active)))
-call_faults entries acknowledged shown begins grants txns was_active call = λ logged.
-    let m : Machine = standing entries acknowledged (serving shown begins grants) txns was_active in
-    let asked = asking_stands entries acknowledged shown begins grants txns was_active call in
-    let n : Machine = standing entries acknowledged (serving shown begins asked.1.0) asked.0 was_active in
+    × (moved m (Client 0 call) (says.Fault 0 ∷ []) ≡ standing entries acknowledged (shut course shown) (ended_at 0 (asking m 0 call).txns) course))
+call_faults entries acknowledged shown begins grants txns course call = λ logged.
+    let m : Machine = standing entries acknowledged (serving course shown begins grants) txns course in
+    let asked = asking_stands entries acknowledged shown begins grants txns course call in
+    let n : Machine = standing entries acknowledged (serving course shown begins asked.1.0) asked.0 course in
     let p : Position = at_start n (Client 0 call) 0 (answer m 0 call) [] in
     let logged_there : logs n call (answer m 0 call) ≡ true = ap (λ k. logs k call (answer m 0 call)) (sym asked.1.1) ∙ logged in
-    served_from m (Client 0 call) (says.Fault 0 ∷ []) p (λ at. (others : List (TxnId × Txn)) × (at ≡ standing entries acknowledged (shut shown) others was_active)) refl (ap (λ at. at_start at (Client 0 call) 0 (answer m 0 call) []) asked.1.1)
+    served_from m (Client 0 call) (says.Fault 0 ∷ []) p (λ at. at ≡ standing entries acknowledged (shut course shown) (ended_at 0 (asking m 0 call).txns) course) (call_unrefused entries acknowledged (serving course shown begins grants) txns course call) (ap (λ at. at_start at (Client 0 call) 0 (answer m 0 call) []) asked.1.1)
     (record {
       may = (record { named = refl; in_rank = refl; next = refl; goes_on = refl; row = inl (refl, refl, logged_there, refl) }, tt);
       complete = record { opened = refl; grown = refl; mounted = refl; told = refl; answered = refl };
-      holds = holds_without_role entries acknowledged (shut shown) (ended_at 0 asked.0) was_active refl;
+      holds = holds_without_role entries acknowledged (shut course shown) (ended_at 0 asked.0) course refl;
     })
-    (ended_at 0 asked.0, refl)
+    (ap (λ (k : Machine). standing entries acknowledged (shut course shown) (ended_at 0 k.txns) course) (sym asked.1.1))
 
 -- ---- behind the lines of an event
 

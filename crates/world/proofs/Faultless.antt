@@ -23,7 +23,7 @@ use Rattle.replica.specs.Open.{Open}
 use Rattle.replica.specs.Step.{reply, is_active, outcome, quiet, shown_commits, committed_by}
 use Rattle.world.specs.declared.error.WorldError.{WorldError}
 use Rattle.world.specs.Fleet.{faults_in, fault_lines, is_fault_of, RoseBy, TellsZero}
-use Rattle.world.specs.Steps.{told_by, order_line, cons_if, IsCutOff}
+use Rattle.world.specs.Steps.{told_by, order_line, cons_if, most_shown, IsCutOff}
 use Rattle.world.proofs.Answer.{is_answer, live_reply_is}
 
 -- ---- lists of lines
@@ -62,6 +62,32 @@ answer_faultless r (says.Progress q e l) is = refl
 answer_faultless r (says.State q n) is = refl
 answer_faultless r (says.Rows words) is = refl
 
+pub answer_shows : (o : Observation) → is_answer o ≡ true → most_shown (o ∷ []) ≡ 0
+answer_shows (says.Up q) is = absurd (false≢true is)
+answer_shows (says.Order t ops) is = refl
+answer_shows (says.View q n) is = absurd (false≢true is)
+answer_shows (says.Active q) is = refl
+answer_shows (says.Committed t) is = refl
+answer_shows (says.Txn t) is = refl
+answer_shows says.Done is = refl
+answer_shows (says.Refused part) is = refl
+answer_shows (says.Down q) is = refl
+answer_shows (says.NotActive q) is = refl
+answer_shows (says.Ended t) is = refl
+answer_shows (says.Locked t) is = refl
+answer_shows says.True is = refl
+answer_shows says.False is = refl
+answer_shows (says.Value value) is = refl
+answer_shows says.Missing is = refl
+answer_shows says.Absent is = refl
+answer_shows says.WrongKind is = refl
+answer_shows (says.Fault q) is = refl
+answer_shows says.IgnoredUp is = refl
+answer_shows (says.IgnoredOldEpoch f e) is = refl
+answer_shows (says.Progress q e l) is = refl
+answer_shows (says.State q n) is = refl
+answer_shows (says.Rows words) is = refl
+
 orders_faultless : (r : ℕ) (cs : List Committed) → faults_in r (map order_line cs) ≡ 0
 orders_faultless r [] = refl
 orders_faultless r (c ∷ cs) = orders_faultless r cs
@@ -81,7 +107,7 @@ active_faultless r id false = refl
 -- ---- the lines of a call
 
 -- a call is answered by an answer
-reply_answers : (r : Open) (call : Call) (given : Reply) → reply r call ≡ Some given → is_answer given.answer ≡ true
+pub reply_answers : (r : Open) (call : Call) (given : Reply) → reply r call ≡ Some given → is_answer given.answer ≡ true
 reply_answers r call given e = by_role (is_active r.role) e
   where
     by_going : (t : TxnId) (o : Option Going) → option_map_or (λ going. live_reply r.front.grants (folded r.contents going.ops) t call) o (Some (plain (says.Ended t))) ≡ Some given → is_answer given.answer ≡ true

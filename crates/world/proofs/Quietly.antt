@@ -19,7 +19,7 @@ use Rattle.replica.specs.declared.role.Role.TheVariants.{Other, Primary}
 use Rattle.replica.specs.Open as opens
 use Rattle.replica.specs.Open.{Open, AgreesWith, HasRole, commits_to}
 use Rattle.world.specs.Disks.{as_commit}
-use Rattle.world.specs.Kept.{Kept}
+use Rattle.world.specs.Kept.{Kept, has_booted}
 use Rattle.world.specs.World.{StandsFor, AsRole, Serves}
 use Rattle.world.specs.Standing.{resting}
 use Rattle.world.proofs.Asides.{arm_serves, inspect_serves, inspection}
@@ -29,12 +29,12 @@ use Rattle.world.proofs.Still.{stands_still}
 use Rattle.world.proofs.WithoutRole.{holds_without_role}
 
 holds_role : (role : Role) (last : ℕ) (r : Open) (images : Areas → Type 0) (m : Machine) → AsRole role last r images m → HoldsBehind m
-holds_role Other last r images m s = subst HoldsBehind (sym s.rests.is) (holds_without_role s.entries s.rests.acknowledged (resting r.shown) s.rests.txns s.rests.was_active refl)
+holds_role Other last r images m s = subst HoldsBehind (sym s.rests.is) (holds_without_role s.entries s.rests.acknowledged (resting s.rests.course r.shown) s.rests.txns s.rests.course refl)
 holds_role (Primary epoch active) last r images m s = holds_behind r.front r.shown r.contents m s.runs
 
 -- ---- arm
 
-pub arm_does : (k new : Kept) (images now : Areas → Type 0) (r : Open) (calls number : ℕ) (lines : List Observation) → k.booted ≡ true → k.replica ≡ Some r → k.last ≤ number → Within images now → new ≡ record k { last = number } → lines ≡ says.Done ∷ [] → Serves k new images now (Arm 0 calls) (Ok lines)
+pub arm_does : (k new : Kept) (images now : Areas → Type 0) (r : Open) (calls number : ℕ) (lines : List Observation) → has_booted k ≡ true → k.replica ≡ Some r → k.last ≤ number → Within images now → new ≡ record k { last = number } → lines ≡ says.Done ∷ [] → Serves k new images now (Arm 0 calls) (Ok lines)
 arm_does k new images now r calls number lines booted some rising within kept told =
     subst (λ ls. Serves k new images now (Arm 0 calls) (Ok ls)) (sym told)
     (λ m s.
@@ -62,7 +62,7 @@ contents_at entries shown hidden n e count =
     ops_of_entries (e ∷ es) = ap (λ rest. e.ops ++ rest) (ops_of_entries es)
 
 -- a primary shows all that its log commits
-shown_by_primary : (r : Open) (log : Log) (epoch : _) (active : Bool) → r.role ≡ Primary epoch active → AgreesWith r log → commits_in log.records ≡ commits_to r.stable.0 log.records
+pub shown_by_primary : (r : Open) (log : Log) (epoch : _) (active : Bool) → r.role ≡ Primary epoch active → AgreesWith r log → commits_in log.records ≡ commits_to r.stable.0 log.records
 shown_by_primary r log epoch active is agrees =
     let role : HasRole r log.records (Primary epoch active) = subst (HasRole r log.records) is agrees.role in
     agrees.commits ∙ (ap (λ ahead. commits_to r.stable.0 log.records ++ ahead) role.shown ∙ append-nil (commits_to r.stable.0 log.records))
@@ -71,13 +71,13 @@ shown_by_primary r log epoch active is agrees =
 shows_role : (role : Role) (last : ℕ) (r : Open) (images : Areas → Type 0) (m : Machine) → r.role ≡ role → AsRole role last r images m → r.contents ≡ state_at (order_of m 0) (replica m 0).show
 shows_role Other last r images m is s =
     subst (λ n. r.contents ≡ state_at (order_of n 0) (replica n 0).show) (sym s.rests.is)
-    (sym s.is_open.agrees.contents ∙ contents_at s.entries (commits_to r.stable.0 s.log.records) s.sound.hidden r.shown (subst (λ n. commits_to n s.log.records ++ s.sound.hidden ≡ map as_commit s.entries) (sym s.stable) s.sound.shows) s.is_open.agrees.shown)
+    (sym s.is_open.agrees.contents ∙ contents_at s.entries (commits_to r.stable.0 s.log.records) s.hidden r.shown s.shows s.is_open.agrees.shown)
 shows_role (Primary epoch active) last r images m is s =
     let all : commits_to r.stable.0 s.log.records ≡ map as_commit s.runs.entries = sym (s.commits ∙ shown_by_primary r s.log epoch active is s.is_open.agrees) in
     subst (λ n. r.contents ≡ state_at (order_of n 0) (replica n 0).show) (sym s.runs.is)
     (sym s.is_open.agrees.contents ∙ contents_at s.runs.entries (commits_to r.stable.0 s.log.records) [] (length s.runs.entries) (append-nil (commits_to r.stable.0 s.log.records) ∙ all) (s.is_open.agrees.shown ∙ s.runs.all_shown))
 
-pub inspect_does : (k new : Kept) (images : Areas → Type 0) (r : Open) (number : ℕ) (lines : List Observation) → k.booted ≡ true → k.replica ≡ Some r → k.last ≤ number → new ≡ record k { last = number } → lines ≡ says.State 0 (length (rows_of r.contents)) ∷ map says.Rows (rows_of r.contents) → Serves k new images images (Inspect 0) (Ok lines)
+pub inspect_does : (k new : Kept) (images : Areas → Type 0) (r : Open) (number : ℕ) (lines : List Observation) → has_booted k ≡ true → k.replica ≡ Some r → k.last ≤ number → new ≡ record k { last = number } → lines ≡ says.State 0 (length (rows_of r.contents)) ∷ map says.Rows (rows_of r.contents) → Serves k new images images (Inspect 0) (Ok lines)
 inspect_does k new images r number lines booted some rising kept told = λ m s.
     let role = open_of k images m r booted some s in
     let shows : r.contents ≡ state_at (order_of m 0) (replica m 0).show = shows_role r.role k.last r images m refl role in

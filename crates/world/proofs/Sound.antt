@@ -13,7 +13,8 @@ use Rattle.order_machine.specs.Order.{Entry, Order}
 use Rattle.order_machine.specs.Machine.{Replica, Txn}
 use Rattle.replica.specs.Open.{shown_in}
 use Rattle.world.specs.Disks.{as_commit, acknowledged_to, HoldsTo}
-use Rattle.world.specs.Standing.{standing}
+use Rattle.world.specs.Standing.{Course, standing}
+use Rattle.world.specs.Course.{MayFollow, IsFence, IsLogged}
 use Rattle.world.specs.World.{IsSound, StillHolds}
 
 -- ---- acknowledged transactions stand in the order
@@ -57,17 +58,21 @@ begins_hold entries acknowledged log begins = record {
   same = holds_place entries (commits_in log.records) begins.0 (acknowledged_to acknowledged entries) begins.1 (acknowledged_few acknowledged entries);
 }
 
-pub begins_still : (entries : List Entry) (acknowledged : List TxnId) (first : Replica) (txns : List (TxnId × Txn)) (was_active : Bool) (images : Areas → Type 0) → first.loss ≡ 0 → Each images (λ c. (log : Log) × (durable c ≡ Ok log) × BeginsWith entries log) → StillHolds (standing entries acknowledged first txns was_active) images
-begins_still entries acknowledged r txns was_active images loss begins booted c is =
+pub begins_still : (entries : List Entry) (acknowledged : List TxnId) (first : Replica) (txns : List (TxnId × Txn)) (course : Course) (images : Areas → Type 0) → first.loss ≡ 0 → Each images (λ c. (log : Log) × (durable c ≡ Ok log) × BeginsWith entries log) → StillHolds (standing entries acknowledged first txns course) images
+begins_still entries acknowledged r txns course images loss begins booted c is =
     let s = begins c is in
     (s.0, s.1, rw loss (begins_hold entries acknowledged s.0 s.2))
 
 -- ---- logs that stay sound
 
 -- a log that commits the entries, and shows a beginning of them
-pub sound_whole : (entries : List Entry) (last : ℕ) (log : Log) (hidden : List Committed) → map as_commit entries ≡ commits_in log.records → shown_in log.records ++ hidden ≡ commits_in log.records → length log.records ≤ 3 * last → IsSound entries last log
-sound_whole entries last log hidden commits shows short = record { more = []; holds = append-nil (map as_commit entries) ∙ commits; hidden = hidden; shows = shows ∙ sym commits; short = short }
+pub sound_whole : (entries : List Entry) (txns : List (TxnId × Txn)) (course : Course) (last : ℕ) (log : Log) (hidden : List Committed) → map as_commit entries ≡ commits_in log.records → shown_in log.records ++ hidden ≡ commits_in log.records → IsFence course log.fence → IsLogged course log → length log.records ≤ 3 * last → IsSound entries txns course last log
+sound_whole entries txns course last log hidden commits shows fence logged short = record { more = []; holds = append-nil (map as_commit entries) ∙ commits; follow = tt; hidden = hidden; shows = shows ∙ sym commits; fence = fence; logged = logged; short = short }
 
 -- as time goes on
-pub sound_later : (entries : List Entry) (last number : ℕ) (log : Log) → last ≤ number → IsSound entries last log → IsSound entries number log
-sound_later entries last number log h s = record { more = s.more; holds = s.holds; hidden = s.hidden; shows = s.shows; short = let o = s.short in omega (arith, o, h) }
+pub sound_later : (entries : List Entry) (txns : List (TxnId × Txn)) (course : Course) (last number : ℕ) (log : Log) → last ≤ number → IsSound entries txns course last log → IsSound entries txns course number log
+sound_later entries txns course last number log h s = record { more = s.more; holds = s.holds; follow = s.follow; hidden = s.hidden; shows = s.shows; fence = s.fence; logged = s.logged; short = let o = s.short in omega (arith, o, h) }
+
+-- where what may follow may follow still
+pub sound_txns : (entries : List Entry) (txns others : List (TxnId × Txn)) (course : Course) (last : ℕ) (log : Log) → ((more : List Committed) → MayFollow entries txns more → MayFollow entries others more) → IsSound entries txns course last log → IsSound entries others course last log
+sound_txns entries txns others course last log then s = record { more = s.more; holds = s.holds; follow = then s.more s.follow; hidden = s.hidden; shows = s.shows; fence = s.fence; logged = s.logged; short = s.short }

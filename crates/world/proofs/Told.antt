@@ -30,7 +30,7 @@ state_is entries n e = ap (λ es. folded [] (flat_map (λ e. e.ops) es)) (all_ta
 -- ---- what goes on
 
 abbrev pub machine_of : {front : Fronted} {shown : ℕ} {contents : State} {m : Machine} → Runs front shown contents m → Machine
-machine_of {front} h = running h.entries h.acknowledged h.txns front.begins h.grants
+machine_of {front} h = running h.entries h.acknowledged h.txns front.begins h.grants h.course
 
 is_off : (o : Option Txn) (b : Bool) → ((x : Txn) → o ≡ Some x → x.live ≡ b) → b ≡ false → option_map_or (λ x. x.live && (x.home == 0)) o false ≡ false
 is_off None b f off = refl

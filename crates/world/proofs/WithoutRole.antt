@@ -9,7 +9,7 @@ use Rattle.order_machine.specs.Machine.{Machine, Replica, Txn, txn_of, role_of, 
 use Rattle.order_machine.specs.Rows.{HoldsBehind}
 use Rattle.order_machine.proofs.Behind.{not_alone}
 use Rattle.order_machine.proofs.Kept.{never_put}
-use Rattle.world.specs.Standing.{standing}
+use Rattle.world.specs.Standing.{Course, standing}
 
 -- nothing is pending at a replica without a role
 pub nothing_pending_without_role : (m : Machine) (r : ℕ) (t : TxnId) → role_of m r ≡ None → is_pending m r t ≡ false
@@ -25,9 +25,9 @@ holds_where_no_role m none = record {
 }
 
 -- in a world of replica 0
-pub holds_without_role : (entries : List Entry) (acknowledged : List TxnId) (zero : Replica) (txns : List (TxnId × Txn)) (was_active : Bool) → zero.role ≡ None → HoldsBehind (standing entries acknowledged zero txns was_active)
-holds_without_role entries acknowledged first txns was_active none = holds_where_no_role (standing entries acknowledged first txns was_active) no_role
+pub holds_without_role : (entries : List Entry) (acknowledged : List TxnId) (zero : Replica) (txns : List (TxnId × Txn)) (course : Course) → zero.role ≡ None → HoldsBehind (standing entries acknowledged zero txns course)
+holds_without_role entries acknowledged first txns course none = holds_where_no_role (standing entries acknowledged first txns course) no_role
   where
-    no_role : (r : ℕ) → role_of (standing entries acknowledged first txns was_active) r ≡ None
+    no_role : (r : ℕ) → role_of (standing entries acknowledged first txns course) r ≡ None
     no_role zero = none
     no_role (suc r) = ap (λ x. x.role) (never_put (suc r))

@@ -1,5 +1,6 @@
 pub mod Standing
 pub mod Running
+pub mod Course
 pub mod Disks
 pub mod Fleet
 pub mod Kept

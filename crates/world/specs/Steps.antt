@@ -1,5 +1,5 @@
 -- The steps of an open replica in an event, and the lines that they print.
-use Rattle.std.specs.Prelude.{◌≡◌, ◌≢◌, ◌⊎◌, ℕ, nat_lt, Bool, true, false, not, ◌&&◌, List, [], ◌∷◌, ◌++◌, map, Ok, if◌then◌else◌}
+use Rattle.std.specs.Prelude.{◌≡◌, ◌≢◌, ◌⊎◌, ℕ, ◌+◌, ◌-◌, nat_lt, max, drop, length, Bool, true, false, not, ◌&&◌, List, [], ◌∷◌, ◌++◌, map, Ok, if◌then◌else◌}
 use Rattle.std.specs.List.{cons_option}
 use Rattle.disk_model.specs.Disk.{Areas, Each}
 use Rattle.txn_table.specs.declared.committed.Committed.{Committed}
@@ -38,6 +38,26 @@ told id shown was_active outcome =
 
 abbrev pub told_by : Open → StepEvent → List Observation
 told_by r event = told r.id r.shown (is_active r.role) (outcome r event)
+
+-- The lines of a replica that starts an epoch, where the order has so many transactions: it shows all that its log commits,
+-- and what is beyond the order enters it.
+abbrev pub told_start : ℕ → Open → List Observation
+told_start order r =
+    map order_line (drop (order - r.shown) r.ahead) ++ told_rise r.id r.shown false (r.shown + length r.ahead) true
+
+-- how many transactions a replica shows by a line, and the most by some lines
+abbrev pub shown_by : Observation → ℕ
+shown_by (says.View id shown) = shown
+shown_by _ = 0
+
+abbrev pub most_shown : List Observation → ℕ
+most_shown [] = 0
+most_shown (line ∷ lines) = max (shown_by line) (most_shown lines)
+
+-- whether a primary becomes active by a line
+abbrev pub is_active_line : Observation → Bool
+is_active_line (says.Active id) = true
+is_active_line _ = false
 
 -- ---- a step, and the Barrier behind it where one is due
 

@@ -1,5 +1,5 @@
 -- When a world and the disk of its replica stand for a state of the machine, and what it promises of an event.
-use Rattle.std.specs.Prelude.{◌≡◌, ℕ, ◌*◌, ◌≤◌, ◌==◌, Bool, true, false, List, [], ◌∷◌, ◌++◌, length, map, Option, Some, None, Result, Ok, Err, MatchBool}
+use Rattle.std.specs.Prelude.{◌≡◌, ℕ, ◌*◌, ◌≤◌, ◌==◌, true, false, List, [], ◌∷◌, ◌++◌, length, map, Option, Some, None, is_some, Result, Ok, Err, MatchBool}
 use Rattle.rc_base.specs.declared.ids.TxnId.{TxnId}
 use Rattle.disk_model.specs.Disk.{Areas, Each}
 use Rattle.txn_table.specs.declared.committed.Committed.{Committed}
@@ -11,21 +11,23 @@ use Rattle.log_store.specs.Store.{IsOpenOn}
 use Rattle.script_text.specs.declared.event.Event.{Event}
 use Rattle.script_text.specs.declared.event.Event.TheVariants.{Boot, Client, Arm, Crash, Reboot, Inspect, Survey, Appoint, Activate}
 use Rattle.order_machine.specs.declared.observation.Observation.{Observation}
-use Rattle.order_machine.specs.Order.{Entry}
-use Rattle.order_machine.specs.Machine.{Machine, Txn, empty_machine, is_booted}
-use Rattle.order_machine.specs.Rows.{first_epoch}
+use Rattle.order_machine.specs.Order.{Entry, length_of}
+use Rattle.order_machine.specs.Machine.{Machine, Txn, empty_machine, is_booted, order_of}
 use Rattle.order_machine.specs.Legal.{IsWhole, moved}
 use Rattle.replica.specs.declared.role.Role.{Role}
 use Rattle.replica.specs.declared.role.Role.TheVariants.{Other, Primary}
-use Rattle.replica.specs.Open.{Open, AgreesWith, shown_in, stable_in}
+use Rattle.replica.specs.Open.{Open, AgreesWith, commits_to, shown_in}
 use Rattle.replica.specs.Step.{CallFits}
 use Rattle.world.specs.declared.error.WorldError.{WorldError}
 use Rattle.world.specs.declared.error.WorldError.TheVariants as errors
 use Rattle.txn_front.specs.Front.{Going, going_of}
 use Rattle.world.specs.Disks.{as_commit, DiskHolds}
-use Rattle.world.specs.Kept.{Kept}
+use Rattle.rc_base.specs.declared.ids.Epoch.{Epoch}
+use Rattle.config_rule.specs.Rule.{Known, broken_appointment, after_appointment}
+use Rattle.world.specs.Course.{IsCourse, AreNoted, ArePast, MayFollow, IsFence, IsLogged}
+use Rattle.world.specs.Kept.{Kept, has_booted}
 use Rattle.world.specs.Running.{Runs}
-use Rattle.world.specs.Standing.{standing, resting, shut}
+use Rattle.world.specs.Standing.{Course, standing, resting, shut}
 
 -- ---- replica 0 and its disk
 
@@ -37,22 +39,27 @@ pub record IsOpen (r : Open) (log : Log) (images : Areas → Type 0) : Type 0 wh
   pub opened : IsOpenOn r.log images
   pub not_closed : r.log.log.closed ≡ false
 
--- The order is a beginning of what a log commits; what a replica shows once the log was opened is a beginning of the order.
--- No event logs more than three records.
-pub record IsSound (entries : List Entry) (last : ℕ) (log : Log) : Type 0 where
+-- The order is a beginning of what a log commits, and what else it commits may follow; what a replica shows once the log was
+-- opened is a beginning of the order. Its epochs were decided. No event logs more than three records.
+pub record IsSound (entries : List Entry) (txns : List (TxnId × Txn)) (course : Course) (last : ℕ) (log : Log) : Type 0 where
   pub more : List Committed
   pub holds : map as_commit entries ++ more ≡ commits_in log.records
+  pub follow : MayFollow entries txns more
   pub hidden : List Committed
   pub shows : shown_in log.records ++ hidden ≡ map as_commit entries
+  pub fence : IsFence course log.fence
+  pub logged : IsLogged course log
   pub short : length log.records ≤ 3 * last
 
 -- It serves as the primary: the order is all that its log commits. A transaction that goes on has records once it has logged
 -- an operation.
 pub record Serving (last : ℕ) (r : Open) (images : Areas → Type 0) (m : Machine) : Type 0 where
   pub runs : Runs r.front r.shown r.contents m
+  pub ruled : IsCourse runs.course
   pub log : Log
   pub is_open : IsOpen r log images
-  pub epoch : r.epoch ≡ first_epoch
+  pub epoch : r.epoch ≡ runs.course.latest
+  pub fence : IsFence runs.course r.fence
   pub commits : map as_commit runs.entries ≡ commits_in log.records
   pub short : length log.records ≤ 3 * last
   pub few : r.front.begins ≤ last
@@ -62,32 +69,37 @@ pub record Serving (last : ℕ) (r : Open) (images : Areas → Type 0) (m : Mach
 pub record RestsWith (entries : List Entry) (shown : ℕ) (m : Machine) : Type 0 where
   pub acknowledged : List TxnId
   pub txns : List (TxnId × Txn)
-  pub was_active : Bool
-  pub is : m ≡ standing entries acknowledged (resting shown) txns was_active
+  pub course : Course
+  pub is : m ≡ standing entries acknowledged (resting course shown) txns course
+  pub ruled : IsCourse course
+  pub past : ArePast course entries acknowledged txns
 
--- it was opened again, and is no primary
+-- it is open, and no primary: it shows a beginning of the order
 pub record Resting (last : ℕ) (r : Open) (images : Areas → Type 0) (m : Machine) : Type 0 where
   pub entries : List Entry
   pub rests : RestsWith entries r.shown m
   pub log : Log
   pub is_open : IsOpen r log images
-  pub sound : IsSound entries last log
-  pub stable : r.stable.0 ≡ stable_in log.records
+  pub sound : IsSound entries rests.txns rests.course last log
+  pub hidden : List Committed
+  pub shows : commits_to r.stable.0 log.records ++ hidden ≡ map as_commit entries
   pub few : r.front.begins ≤ last
 
 -- Replica 0 is closed, and these are the entries of the order.
 pub record IsShutWith (entries : List Entry) (m : Machine) : Type 0 where
   pub acknowledged : List TxnId
   pub txns : List (TxnId × Txn)
-  pub was_active : Bool
+  pub course : Course
   pub shown : ℕ
-  pub is : m ≡ standing entries acknowledged (shut shown) txns was_active
+  pub is : m ≡ standing entries acknowledged (shut course shown) txns course
+  pub ruled : IsCourse course
+  pub past : ArePast course entries acknowledged txns
 
 -- it is closed
 pub record Closed (last : ℕ) (images : Areas → Type 0) (m : Machine) : Type 0 where
   pub entries : List Entry
   pub is_shut : IsShutWith entries m
-  pub sound : Each images (λ c. (log : Log) × (durable c ≡ Ok log) × IsSound entries last log)
+  pub sound : Each images (λ c. (log : Log) × (durable c ≡ Ok log) × IsSound entries is_shut.txns is_shut.course last log)
 
 abbrev pub AsRole : Role → ℕ → Open → (Areas → Type 0) → Machine → Type 0
 AsRole Other = Resting
@@ -97,17 +109,36 @@ abbrev pub AsReplica : Option Open → ℕ → (Areas → Type 0) → Machine �
 AsReplica None last images m = Closed last images m
 AsReplica (Some r) last images m = AsRole r.role last r images m
 
+-- ---- what a world keeps beside them
+
+-- Its rule knows what the machine has decided, and it keeps the length of the order.
+pub record IsRuled (k : Kept) (m : Machine) : Type 0 where
+  pub known : Known
+  pub rule : k.rule ≡ Some known
+  pub appointed : AreNoted known.appointed m.appointments
+  pub current : known.current ≡ m.config
+  pub answers : known.answers ≡ m.answers
+  pub order : k.order ≡ length_of (order_of m 0)
+
 -- before the boot there is no log
 pub record IsNew (k : Kept) (images : Areas → Type 0) (m : Machine) : Type 0 where
   pub is : m ≡ empty_machine
   pub closed : k.replica ≡ None
+  pub unordered : k.order ≡ 0
   pub empty : StandFor no_log images
 
 -- the world and the disk of replica 0 stand for this state of the machine
 abbrev pub StandsFor : Kept → (Areas → Type 0) → Machine → Type 0
-StandsFor k images m = MatchBool k.booted (AsReplica k.replica k.last images m) (IsNew k images m)
+StandsFor k images m = MatchBool (has_booted k) (AsReplica k.replica k.last images m × IsRuled k m) (IsNew k images m)
 
 -- ---- what an event promises
+
+-- The rule has taken a lawful appointment of replica 0, alone, to the epoch; nothing else has changed.
+pub record IsAppointed (before now : Kept) (epoch : Epoch) : Type 0 where
+  pub known : Known
+  pub rule : before.rule ≡ Some known
+  pub lawful : broken_appointment known epoch 0 (0 ∷ []) (is_some before.replica) ≡ None
+  pub now_is : now ≡ record before { rule = Some (after_appointment known epoch 0 (0 ∷ [])) }
 
 -- The event is one that is done so far, at the replica that there is. Its names, keys and values may be any that a log
 -- can hold.
@@ -118,9 +149,9 @@ IsHere (Arm r calls) = (r ≡ 0) × (1 ≤ calls)
 IsHere (Crash r pick) = r ≡ 0
 IsHere (Reboot r) = r ≡ 0
 IsHere (Inspect r) = r ≡ 0
-IsHere (Survey r e) = ⊥
-IsHere (Appoint e p members) = ⊥
-IsHere (Activate e) = ⊥
+IsHere (Survey r e) = r ≡ 0
+IsHere (Appoint e p members) = (p ≡ 0) × (members ≡ 0 ∷ [])
+IsHere (Activate e) = Unit {0}
 
 -- once it was booted, the disk holds what was acknowledged
 abbrev pub StillHolds : Machine → (Areas → Type 0) → Type 0

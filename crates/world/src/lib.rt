@@ -3,9 +3,11 @@
 
 mod error;
 mod opening;
+mod reconfiguring;
 mod rows;
 mod starting;
 mod steps;
+mod telling;
 mod world;
 
 pub use error::WorldError;

@@ -1,7 +1,9 @@
-ghost use Rattle.std.specs.Prelude.{◌≡◌, ◌⊎◌, ◌+◌, ◌<◌, ◌≤◌, ◌^◌, ◌++◌, ◌∷◌, [], IfOk, OnOk, IsErrOf, None, true};
+ghost use Rattle.std.specs.Prelude.{◌≡◌, ◌⊎◌, ◌+◌, ◌<◌, ◌≤◌, ◌^◌, ◌++◌, ◌∷◌, [], IfOk, OnOk, IsErrOf, None, Some, true, if◌then◌else◌};
+ghost use Rattle.std.specs.List.{list_any};
 ghost use Rattle.rc_base.specs.Counts.{Counted};
+ghost use Rattle.config_rule.specs.Rule.{after_boot, after_active};
 ghost use Rattle.log_store.specs.declared.kept.Kept.{Kept as Log};
-ghost use Rattle.log_store.specs.Durable.{StandFor};
+ghost use Rattle.log_store.specs.Durable.{StandFor, StandForOneOf};
 ghost use Rattle.log_store.specs.Fold.{no_log};
 ghost use Rattle.order_machine.specs.Legal.{IsWhole, moved};
 ghost use Rattle.order_machine.specs.Machine.{empty_machine};
@@ -9,23 +11,37 @@ ghost use Rattle.order_machine.specs.declared.observation.Observation.TheVariant
 ghost use Rattle.replica.specs.declared.error.StepError.TheVariants as errors;
 ghost use Rattle.replica.specs.declared.step.StepEvent.TheVariants as steps;
 ghost use Rattle.replica.specs.Open.{AreSame};
-ghost use Rattle.replica.specs.Step.{MayStep};
-ghost use Rattle.order_machine.specs.Rows.{first_epoch};
+ghost use Rattle.replica.specs.Step.{MayStep, stepped};
 ghost use Rattle.script_text.specs.declared.event.Event.TheVariants.{Boot};
 ghost use Rattle.world.specs.Fleet.{faults_in, RoseBy, TellsZero};
-ghost use Rattle.world.specs.Steps.{finished, told_by, log_behind, log_once, log_twice, HoldsSome};
-ghost use Rattle.world.specs.World.{AsReplica, IsOpen};
+ghost use Rattle.order_machine.specs.Rows.{first_epoch};
+ghost use Rattle.world.specs.Kept.{no_events};
+ghost use Rattle.world.specs.Steps.{is_active_line, finished, told_start, log_behind, log_once, HoldsSome};
+ghost use Rattle.world.specs.World.{AsReplica, IsOpen, IsRuled};
 
 use crate::opening::open_replica;
-use crate::steps::take_step;
+use crate::steps::{take_step, tell_orders, tell_rise};
+use config_rule::Rule;
 use disk_model::CrashDisk;
 use order_machine::{Observation, Observations};
-use rc_base::{Epoch, NoMemory, ReplicaId};
+use rc_base::{Epoch, Members, MembersError, NoMemory, ReplicaId};
 use replica::{Replica, StepError, StepEvent};
 use std::alloc::Global;
 
 // The epoch that a boot starts.
-const FIRST_EPOCH: Epoch = Epoch { loss: 0, number: 1 };
+pub(crate) const FIRST_EPOCH: Epoch = Epoch { loss: 0, number: 1 };
+
+// The rule of reconfiguration of a world that is booted with this one member.
+pub(crate) fn first_rule(alloc: Global, member: ReplicaId) -> Result<Rule, NoMemory>
+    requires first { member ≡ 0 }
+    ensures { IfOk result (λ rule. rule ≡ after_boot (0 ∷ [])) }
+{
+    match Members::from_slice(alloc, &[member]) {
+        Ok(members) => Rule::new(alloc, &members),
+        Err(MembersError::NoMemory) => Err(NoMemory),
+        Err(MembersError::Twice { .. }) => unreachable!(),
+    }
+}
 
 // Boots replica 0 over a disk without a log: opens it and starts the first epoch, and tells so. These are all lines of the
 // boot. None where the disk failed, which is told then.
@@ -40,6 +56,7 @@ pub(crate) fn boot_replica<M: CrashDisk>(
     requires untold { lines.old ≡ [] }
     ensures whole { OnOk result (IsWhole empty_machine (Boot 0 (0 ∷ [])) lines.new) }
     ensures stands { IfOk result (λ o. AsReplica o 1 (M.images disk.new) (moved empty_machine (Boot 0 (0 ∷ [])) lines.new)) }
+    ensures ruled { OnOk result (IsRuled (record no_events { rule = Some (if list_any is_active_line lines.new then after_active (after_boot (0 ∷ [])) first_epoch else after_boot (0 ∷ [])) }) (moved empty_machine (Boot 0 (0 ∷ [])) lines.new)) }
     ensures others { OnOk result (TellsZero lines.new) }
     ensures faults { OnOk result (RoseBy (faults_in 0 lines.new) (M.faults disk.old) (M.faults disk.new)) }
     ensures later { M.faults disk.old ≤ M.faults disk.new }
@@ -48,7 +65,7 @@ pub(crate) fn boot_replica<M: CrashDisk>(
     let Some(mut opened) = open_replica(alloc, replica, disk, lines)? else {
         return Ok(None);
     };
-    match start(replica, &mut opened, disk, lines) {
+    match start_epoch(replica, &mut opened, disk, FIRST_EPOCH, 0, lines) {
         Ok(()) => Ok(Some(opened)),
         Err(StepError::Disk) => {
             lines.push(Observation::Fault(replica))?;
@@ -58,29 +75,60 @@ pub(crate) fn boot_replica<M: CrashDisk>(
     }
 }
 
-// The replica starts the first epoch, answers, and logs a Barrier.
-fn start<M: CrashDisk>(
+// The replica starts an epoch, where the order has so many transactions, answers, and logs a Barrier.
+pub(crate) fn start_epoch<M: CrashDisk>(
     replica: ReplicaId,
     opened: &mut Replica,
     disk: &mut M,
+    epoch: Epoch,
+    order: u64,
     lines: &mut Observations,
 ) -> Result<(), StepError>
     requires first { replica ≡ 0 }
     requires stands { (log : Log) × IsOpen opened.old log (M.images disk.old) }
-    requires may { MayStep opened.old (steps.Start first_epoch) }
+    requires may { MayStep opened.old (steps.Start epoch) }
     requires room { opened.old.last.0 + 4 < 2 ^ 48 }
     requires counted { opened.old.front.begins + 1 < 2 ^ 64 }
-    ensures kept { OnOk result (AreSame opened.new (record (finished opened.old (steps.Start first_epoch)) { log = opened.new.log })) }
-    ensures stands { OnOk result ((log : Log) → IsOpen opened.old log (M.images disk.old) → IsOpen opened.new (log_behind opened.old (steps.Start first_epoch) log) (M.images disk.new)) }
-    ensures told { OnOk result (lines.new ≡ (lines.old ++ told_by opened.old (steps.Start first_epoch)) ++ says.Done ∷ []) }
-    ensures cut { IsErrOf result errors.Disk → (lines.new ≡ lines.old) ⊎ (lines.new ≡ (lines.old ++ told_by opened.old (steps.Start first_epoch)) ++ says.Done ∷ []) }
-    ensures stop { (log : Log) → IsOpen opened.old log (M.images disk.old) → HoldsSome opened.old (steps.Start first_epoch) log (M.images disk.new) }
+    ensures kept { OnOk result (AreSame opened.new (record (finished opened.old (steps.Start epoch)) { log = opened.new.log })) }
+    ensures stands { OnOk result ((log : Log) → IsOpen opened.old log (M.images disk.old) → IsOpen opened.new (log_behind opened.old (steps.Start epoch) log) (M.images disk.new)) }
+    ensures told { OnOk result (lines.new ≡ (lines.old ++ told_start order opened.old) ++ says.Done ∷ []) }
+    ensures cut { IsErrOf result errors.Disk → ((lines.new ≡ lines.old) × ((log : Log) → IsOpen opened.old log (M.images disk.old) → StandForOneOf log (log_once opened.old (steps.Start epoch) log) (M.images disk.new))) ⊎ (lines.new ≡ (lines.old ++ told_start order opened.old) ++ says.Done ∷ []) }
+    ensures stop { (log : Log) → IsOpen opened.old log (M.images disk.old) → HoldsSome opened.old (steps.Start epoch) log (M.images disk.new) }
     ensures cause { Counted (M.faults disk.old) (M.faults disk.new) (IsErrOf result errors.Disk) }
     ensures marks { M.marks disk.new ≡ M.marks disk.old }
 {
-    let event = StepEvent::Start { epoch: FIRST_EPOCH };
-    take_step(replica, opened, disk, &event, lines)?;
+    take_start(replica, opened, disk, epoch, order, lines)?;
     lines.push(Observation::Done)?;
     take_step(replica, opened, disk, &StepEvent::Barrier, lines)?;
+    Ok(())
+}
+
+// The step that starts an epoch, and its lines.
+fn take_start<M: CrashDisk>(
+    replica: ReplicaId,
+    opened: &mut Replica,
+    disk: &mut M,
+    epoch: Epoch,
+    order: u64,
+    lines: &mut Observations,
+) -> Result<(), StepError>
+    requires first { replica ≡ 0 }
+    requires stands { (log : Log) × IsOpen opened.old log (M.images disk.old) }
+    requires may { MayStep opened.old (steps.Start epoch) }
+    requires room { opened.old.last.0 + 4 < 2 ^ 48 }
+    requires counted { opened.old.front.begins + 1 < 2 ^ 64 }
+    ensures kept { OnOk result (AreSame opened.new (record (stepped opened.old (steps.Start epoch)) { log = opened.new.log })) }
+    ensures stands { OnOk result ((log : Log) → IsOpen opened.old log (M.images disk.old) → IsOpen opened.new (log_once opened.old (steps.Start epoch) log) (M.images disk.new)) }
+    ensures told { OnOk result (lines.new ≡ lines.old ++ told_start order opened.old) }
+    ensures stop { (log : Log) → IsOpen opened.old log (M.images disk.old) → StandForOneOf log (log_once opened.old (steps.Start epoch) log) (M.images disk.new) }
+    ensures untold { IsErrOf result errors.Disk → lines.new ≡ lines.old }
+    ensures cause { Counted (M.faults disk.old) (M.faults disk.new) (IsErrOf result errors.Disk) }
+    ensures marks { M.marks disk.new ≡ M.marks disk.old }
+{
+    let shown = opened.shown();
+    let outcome = opened.step(disk, &StepEvent::Start { epoch })?;
+    let known = order.saturating_sub(shown) as usize;
+    tell_orders(outcome.commits, known, lines)?;
+    tell_rise(replica, shown, false, outcome.shown, true, lines)?;
     Ok(())
 }

@@ -1,4 +1,4 @@
-ghost use Rattle.std.specs.Prelude.{◌≡◌, ◌≢◌, ◌+◌, ◌<◌, ◌^◌, ◌++◌, ◌∷◌, [], IfOk, OnOk, IsErrOf, Ok, None, map};
+ghost use Rattle.std.specs.Prelude.{◌≡◌, ◌≢◌, ◌+◌, ◌<◌, ◌^◌, ◌++◌, ◌∷◌, [], IfOk, OnOk, IsErrOf, Ok, None, map, drop};
 ghost use Rattle.rc_base.specs.Counts.{Counted};
 ghost use Rattle.disk_model.specs.Disk.{Each};
 ghost use Rattle.log_store.specs.declared.kept.Kept.{Kept as Log};
@@ -26,10 +26,15 @@ pub(crate) fn is_active(role: Role) -> bool
     matches!(role, Role::Primary { active: true, .. })
 }
 
-fn tell_orders(commits: Commits, lines: &mut Observations) -> Result<(), NoMemory>
-    ensures { OnOk result (lines.new ≡ lines.old ++ map order_line commits) }
+// The commits enter the order, but for the first ones, which it knows.
+pub(crate) fn tell_orders(
+    commits: Commits,
+    known: usize,
+    lines: &mut Observations,
+) -> Result<(), NoMemory>
+    ensures { OnOk result (lines.new ≡ lines.old ++ map order_line (drop known commits)) }
 {
-    for commit in commits.into_vec() {
+    for commit in commits.into_vec().into_iter().skip(known) {
         lines.push(Observation::Order(commit.txn, commit.ops))?;
     }
     Ok(())
@@ -45,7 +50,7 @@ fn tell_acknowledged(txns: TxnIds, lines: &mut Observations) -> Result<(), NoMem
 }
 
 // That a replica shows more, and became active.
-fn tell_rise(
+pub(crate) fn tell_rise(
     replica: ReplicaId,
     shown: u64,
     was_active: bool,
@@ -82,7 +87,7 @@ fn tell(
         active,
         ..
     } = outcome;
-    tell_orders(commits, lines)?;
+    tell_orders(commits, 0, lines)?;
     tell_rise(replica, shown, was_active, now_shown, active, lines)?;
     tell_acknowledged(acknowledged, lines)?;
     if let Some(answer) = answer {

@@ -1,18 +1,21 @@
-ghost use Rattle.std.specs.Prelude.{◌≡◌, ℕ, ◌<◌, ◌≤◌, ◌∷◌, ◌++◌, [], IfOk, OnOk, OnErr, Err, None, false, vec_len, slice_get};
+ghost use Rattle.std.specs.Prelude.{◌≡◌, ℕ, ◌<◌, ◌≤◌, ◌∷◌, ◌++◌, [], IfOk, OnOk, OnErr, Err, None, false, max, vec_len, slice_get};
 ghost use Rattle.order_machine.specs.declared.observation.Observation.{Observation};
 ghost use Rattle.order_machine.specs.Machine.{Machine};
 ghost use Rattle.order_machine.specs.Rows.{event_primary, is_actor};
 ghost use Rattle.replica.specs.Step.{CallFits};
 ghost use Rattle.script_text.specs.declared.event.Event.TheVariants.{Boot, Client, Arm, Crash, Reboot, Inspect};
 ghost use Rattle.world.specs.Fleet.{images_of, faults_of, marks_of, marks_after, fault_lines, RoseBy, TellsZero};
-ghost use Rattle.world.specs.Kept.{no_events};
+ghost use Rattle.world.specs.Kept.{no_events, has_booted};
+ghost use Rattle.world.specs.Steps as spec;
 ghost use Rattle.world.specs.World.{StandsFor, IsHere, Serves, StillHolds};
 
 use crate::error::WorldError;
 use crate::opening::open_replica;
 use crate::rows::inspected;
-use crate::starting::boot_replica;
+use crate::starting::{FIRST_EPOCH, boot_replica, first_rule};
 use crate::steps::take_call;
+use crate::telling::{most_shown, tells_active};
+use config_rule::Rule;
 use disk_model::CrashDisk;
 use order_machine::{Observation, Observations};
 use rc_base::{NoMemory, ReplicaId};
@@ -25,12 +28,15 @@ use std::marker::Model;
 /// event.
 #[derive(Drop)]
 pub struct World {
-    alloc: Global,
+    pub(crate) alloc: Global,
     // The number of the last event.
-    last: u64,
-    booted: bool,
+    pub(crate) last: u64,
+    // The rule of reconfiguration, once the boot was done.
+    pub(crate) rule: Option<Rule>,
+    // How many transactions the order has.
+    pub(crate) order: u64,
     // Replica 0, where it is open.
-    replica: Option<Replica>,
+    pub(crate) replica: Option<Replica>,
 }
 
 impl Model for World {
@@ -38,7 +44,7 @@ impl Model for World {
 
     ghost Value = { Kept };
 
-    ghost view = { λ w. record { last = w.last; booted = w.booted; replica = w.replica } };
+    ghost view = { λ w. record { last = w.last; rule = w.rule; order = w.order; replica = w.replica } };
 }
 
 impl World {
@@ -52,7 +58,8 @@ impl World {
         Ok(World {
             alloc,
             last: 0,
-            booted: false,
+            rule: None,
+            order: 0,
             replica: None,
         })
     }
@@ -110,7 +117,11 @@ impl World {
             Event::Crash(replica, pick) => self.crash(disk, number, *replica, *pick),
             Event::Reboot(replica) => self.reboot(disk, number, *replica),
             Event::Inspect(replica) => self.inspect(disk, number, *replica),
-            Event::Survey(..) | Event::Appoint(..) | Event::Activate(_) => unreachable!(),
+            Event::Survey(replica, epoch) => self.survey(disk, number, *replica, *epoch),
+            Event::Appoint(epoch, primary, members) => {
+                self.appoint(disk, number, *epoch, *primary, members)
+            }
+            Event::Activate(epoch) => self.activate(disk, number, *epoch),
         }
     }
 
@@ -130,13 +141,17 @@ impl World {
         ensures faults { RoseBy (fault_lines 0 result) (M.faults disk.old) (M.faults disk.new) }
         ensures marks { M.marks disk.new ≡ M.marks disk.old }
     {
-        if self.booted {
+        if self.is_booted() {
             return self.answered(number, Observation::Refused(9));
         }
         let mut lines = Observations::new(self.alloc);
+        let mut rule = first_rule(self.alloc, replica)?;
         self.replica = boot_replica(self.alloc, replica, disk, &mut lines)?;
+        if tells_active(&lines) {
+            rule.note_active(FIRST_EPOCH);
+        }
         self.last = number;
-        self.booted = true;
+        self.rule = Some(rule);
         Ok(lines)
     }
 
@@ -158,7 +173,7 @@ impl World {
         ensures faults { RoseBy (fault_lines 0 result) (M.faults disk.old) (M.faults disk.new) }
         ensures marks { M.marks disk.new ≡ M.marks disk.old }
     {
-        if !self.booted {
+        if !self.is_booted() {
             return self.answered(number, Observation::Refused(9));
         }
         let mut lines = Observations::new(self.alloc);
@@ -167,7 +182,7 @@ impl World {
         };
         match take_call(replica, open, disk, call, &mut lines) {
             Ok(()) => {
-                self.last = number;
+                self.advance(number, &lines);
                 Ok(lines)
             }
             Err(StepError::Disk) => self.faulted(number, replica, lines),
@@ -193,7 +208,7 @@ impl World {
         ensures faults { RoseBy (fault_lines 0 result) (M.faults disk.old) (M.faults disk.new) }
         ensures marks { M.marks disk.new ≡ marks_after (Arm 0 calls) result 0 (M.marks disk.old) }
     {
-        if !self.booted {
+        if !self.is_booted() {
             return self.answered(number, Observation::Refused(9));
         }
         if self.replica.is_none() {
@@ -221,7 +236,7 @@ impl World {
         ensures faults { RoseBy (fault_lines 0 result) (M.faults disk.old) (M.faults disk.new) }
         ensures marks { M.marks disk.new ≡ marks_after (Crash 0 pick) result 0 (M.marks disk.old) }
     {
-        if !self.booted {
+        if !self.is_booted() {
             return self.answered(number, Observation::Refused(9));
         }
         let lines = self.answered(number, Observation::Done)?;
@@ -246,7 +261,7 @@ impl World {
         ensures faults { RoseBy (fault_lines 0 result) (M.faults disk.old) (M.faults disk.new) }
         ensures marks { M.marks disk.new ≡ M.marks disk.old }
     {
-        if !self.booted {
+        if !self.is_booted() {
             return self.answered(number, Observation::Refused(9));
         }
         if self.replica.is_some() {
@@ -275,7 +290,7 @@ impl World {
         ensures marks { M.marks disk.new ≡ M.marks disk.old }
     {
         let _ = disk;
-        if !self.booted {
+        if !self.is_booted() {
             return self.answered(number, Observation::Refused(9));
         }
         let Some(opened) = &self.replica else {
@@ -286,25 +301,45 @@ impl World {
         Ok(lines)
     }
 
+    // Whether the boot was done.
+    pub(crate) fn is_booted(&self) -> bool
+        ensures { result ≡ has_booted self.now }
+    {
+        self.rule.is_some()
+    }
+
+    // An event was done, with these lines.
+    pub(crate) fn advance(&mut self, number: u64, lines: &Observations)
+        ensures { self.new ≡ record self.old { last = number; order = max self.old.order (spec.most_shown lines.now) } }
+    {
+        self.last = number;
+        self.order = self.order.max(most_shown(lines));
+    }
+
     // An event in a step of which the disk failed, behind these lines: the replica is closed.
-    fn faulted(
+    pub(crate) fn faulted(
         &mut self,
         number: u64,
         replica: ReplicaId,
         mut lines: Observations,
     ) -> Result<Observations, WorldError>
         ensures lines { IfOk result (λ told. told ≡ lines ++ Observation.Fault replica ∷ []) }
-        ensures closed { OnOk result (self.new ≡ record self.old { last = number; replica = None }) }
+        ensures closed { OnOk result (self.new ≡ record self.old { last = number; order = max self.old.order (spec.most_shown lines); replica = None }) }
         ensures memory { OnErr result (result ≡ Err WorldError.NoMemory) }
     {
         self.replica = None;
+        self.order = self.order.max(most_shown(&lines));
         lines.push(Observation::Fault(replica))?;
         self.last = number;
         Ok(lines)
     }
 
     // An event that is answered and changes nothing but the count of events.
-    fn answered(&mut self, number: u64, answer: Observation) -> Result<Observations, WorldError>
+    pub(crate) fn answered(
+        &mut self,
+        number: u64,
+        answer: Observation,
+    ) -> Result<Observations, WorldError>
         ensures lines { IfOk result (λ lines. lines ≡ answer ∷ []) }
         ensures stays { OnOk result (self.new ≡ record self.old { last = number }) }
         ensures memory { OnErr result (result ≡ Err WorldError.NoMemory) }

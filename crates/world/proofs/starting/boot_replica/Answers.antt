@@ -1,7 +1,7 @@
 use Rattle.std.proofs.Common.{◌≡◌, ◌∙◌, ◌++◌, ◌∷◌, [], ℕ, suc, Ok, Err, ap, arith}
 use Rattle.order_machine.specs.declared.observation.Observation.TheVariants as says
 use Rattle.world.specs.Fleet.{faults_in}
-use Rattle.world.proofs.Booting.{over_new, boots_whole, boots_unopened, boots_unstarted, started_lines, cut_lines, one_fault, fault_of_zero, fresh_may_start}
+use Rattle.world.proofs.Booting.{cut_of, over_new, boots_whole, boots_unopened, boots_unstarted, started_lines, cut_lines, one_fault, fault_of_zero, fresh_may_start}
 use Rattle.txn_front.specs.Front.{Fronted}
 use Rattle.world.proofs.Faultless.{fault_first}
 use Rattle.world.proofs.starting.boot_replica.Goals as goal
@@ -16,22 +16,22 @@ returns-in_default-clause-stands g c =
     let done = c.in_ok-opened.ensures in
     (boots_unopened (g.M.Disk.images c.args.disk.now) (g.M.Disk.images c.open_replica.new.disk) c.open_replica.new.lines c.requires.empty done.stop (done.faulted (ap Ok c.in_default.is) ∙ ap (λ ls. ls ++ says.Fault 0 ∷ []) c.requires.untold)).1
 
-pub start-requires-clause-may : goal.start-requires-clause-may
-start-requires-clause-may g c =
+pub start_epoch-requires-clause-may : goal.start_epoch-requires-clause-may
+start_epoch-requires-clause-may g c =
     let disk = c.open_replica.new.disk in
     let done = c.in_ok-opened.ensures in
     let n = over_new _ c.in-Some.opened (g.M.Disk.images c.args.disk.now) (g.M.Disk.images disk) (g.M.Disk.seen disk) _ _ c.requires.untold c.in-Some.is c.requires.empty done.stop (g.met.M.CrashDisk.tells disk) (g.met.M.Disk.seen_is_image disk) done.opened done.fresh done.told in
     fresh_may_start c.in-Some.opened n.fresh
 
-pub start-requires-clause-room : goal.start-requires-clause-room
-start-requires-clause-room g c =
+pub start_epoch-requires-clause-room : goal.start_epoch-requires-clause-room
+start_epoch-requires-clause-room g c =
     let disk = c.open_replica.new.disk in
     let done = c.in_ok-opened.ensures in
     let n = over_new _ c.in-Some.opened (g.M.Disk.images c.args.disk.now) (g.M.Disk.images disk) (g.M.Disk.seen disk) _ _ c.requires.untold c.in-Some.is c.requires.empty done.stop (g.met.M.CrashDisk.tells disk) (g.met.M.Disk.seen_is_image disk) done.opened done.fresh done.told in
     omega (arith, n.fresh.last)
 
-pub start-requires-clause-counted : goal.start-requires-clause-counted
-start-requires-clause-counted g c =
+pub start_epoch-requires-clause-counted : goal.start_epoch-requires-clause-counted
+start_epoch-requires-clause-counted g c =
     let disk = c.open_replica.new.disk in
     let done = c.in_ok-opened.ensures in
     let n = over_new _ c.in-Some.opened (g.M.Disk.images c.args.disk.now) (g.M.Disk.images disk) (g.M.Disk.seen disk) _ _ c.requires.untold c.in-Some.is c.requires.empty done.stop (g.met.M.CrashDisk.tells disk) (g.met.M.Disk.seen_is_image disk) done.opened done.fresh done.told in
@@ -44,7 +44,7 @@ returns-in-Ok-clause-whole g c =
     let done = c.in_ok-opened.ensures in
     let n = over_new _ c.in-Some.opened (g.M.Disk.images c.args.disk.now) (g.M.Disk.images disk) (g.M.Disk.seen disk) _ _ c.requires.untold c.in-Some.is c.requires.empty done.stop (g.met.M.CrashDisk.tells disk) (g.met.M.Disk.seen_is_image disk) done.opened done.fresh done.told in
     let e = c.in-Ok.ensures in
-    (boots_whole c.in-Some.opened c.start.new.opened n.log (g.M.Disk.images c.start.new.disk) c.open_replica.new.lines c.start.new.lines n.fresh n.is_new e.kept (e.stands n.log n.is_open) n.told e.told).0
+    (boots_whole c.in-Some.opened c.start_epoch.new.opened n.log (g.M.Disk.images c.start_epoch.new.disk) c.open_replica.new.lines c.start_epoch.new.lines n.fresh n.is_new e.kept (e.stands n.log n.is_open) n.told e.told).0
 
 pub returns-in-Ok-clause-stands : goal.returns-in-Ok-clause-stands
 returns-in-Ok-clause-stands g c =
@@ -52,7 +52,7 @@ returns-in-Ok-clause-stands g c =
     let done = c.in_ok-opened.ensures in
     let n = over_new _ c.in-Some.opened (g.M.Disk.images c.args.disk.now) (g.M.Disk.images disk) (g.M.Disk.seen disk) _ _ c.requires.untold c.in-Some.is c.requires.empty done.stop (g.met.M.CrashDisk.tells disk) (g.met.M.Disk.seen_is_image disk) done.opened done.fresh done.told in
     let e = c.in-Ok.ensures in
-    (boots_whole c.in-Some.opened c.start.new.opened n.log (g.M.Disk.images c.start.new.disk) c.open_replica.new.lines c.start.new.lines n.fresh n.is_new e.kept (e.stands n.log n.is_open) n.told e.told).1
+    (boots_whole c.in-Some.opened c.start_epoch.new.opened n.log (g.M.Disk.images c.start_epoch.new.disk) c.open_replica.new.lines c.start_epoch.new.lines n.fresh n.is_new e.kept (e.stands n.log n.is_open) n.told e.told).1
 
 pub returns-in-Ok-clause-faults : goal.returns-in-Ok-clause-faults
 returns-in-Ok-clause-faults g c =
@@ -60,7 +60,7 @@ returns-in-Ok-clause-faults g c =
     let done = c.in_ok-opened.ensures in
     let n = over_new _ c.in-Some.opened (g.M.Disk.images c.args.disk.now) (g.M.Disk.images disk) (g.M.Disk.seen disk) _ _ c.requires.untold c.in-Some.is c.requires.empty done.stop (g.met.M.CrashDisk.tells disk) (g.met.M.Disk.seen_is_image disk) done.opened done.fresh done.told in
     let e = c.in-Ok.ensures in
-    let none : faults_in 0 c.start.new.lines ≡ 0 = ap (faults_in 0) (started_lines c.in-Some.opened c.open_replica.new.lines c.start.new.lines n.fresh n.told e.told) in
+    let none : faults_in 0 c.start_epoch.new.lines ≡ 0 = ap (faults_in 0) (started_lines c.in-Some.opened c.open_replica.new.lines c.start_epoch.new.lines n.fresh n.told e.told) in
     let first = done.cause.later in
     let second = e.cause.later in
     record { later = omega arith; by = omega arith }
@@ -71,8 +71,8 @@ returns-in-Err-Disk-clause-whole g c =
     let done = c.in_ok-opened.ensures in
     let n = over_new _ c.in-Some.opened (g.M.Disk.images c.args.disk.now) (g.M.Disk.images disk) (g.M.Disk.seen disk) _ _ c.requires.untold c.in-Some.is c.requires.empty done.stop (g.met.M.CrashDisk.tells disk) (g.met.M.Disk.seen_is_image disk) done.opened done.fresh done.told in
     let e = c.in-Err-Disk.ensures in
-    let lines = cut_lines c.in-Some.opened c.open_replica.new.lines c.start.new.lines c.push.new.self n.fresh n.told (e.cut (ap Err c.in-Err-Disk.field-0-is)) (c.in_ok-push-in-Err-Disk.ensures.ok ∙ ap (λ (q : ℕ). c.start.new.lines ++ says.Fault q ∷ []) c.requires.first) in
-    (boots_unstarted c.in-Some.opened n.log (g.M.Disk.images c.start.new.disk) c.push.new.self n.is_new (e.stop n.log n.is_open) lines).0
+    let lines = cut_lines c.in-Some.opened c.open_replica.new.lines c.start_epoch.new.lines c.push.new.self n.fresh n.told (cut_of c.in-Some.opened c.open_replica.new.lines c.start_epoch.new.lines (e.cut (ap Err c.in-Err-Disk.field-0-is))) (c.in_ok-push-in-Err-Disk.ensures.ok ∙ ap (λ (q : ℕ). c.start_epoch.new.lines ++ says.Fault q ∷ []) c.requires.first) in
+    (boots_unstarted c.in-Some.opened n.log (g.M.Disk.images c.start_epoch.new.disk) c.push.new.self n.is_new (e.stop n.log n.is_open) lines).0
 
 pub returns-in-Err-Disk-clause-stands : goal.returns-in-Err-Disk-clause-stands
 returns-in-Err-Disk-clause-stands g c =
@@ -80,8 +80,8 @@ returns-in-Err-Disk-clause-stands g c =
     let done = c.in_ok-opened.ensures in
     let n = over_new _ c.in-Some.opened (g.M.Disk.images c.args.disk.now) (g.M.Disk.images disk) (g.M.Disk.seen disk) _ _ c.requires.untold c.in-Some.is c.requires.empty done.stop (g.met.M.CrashDisk.tells disk) (g.met.M.Disk.seen_is_image disk) done.opened done.fresh done.told in
     let e = c.in-Err-Disk.ensures in
-    let lines = cut_lines c.in-Some.opened c.open_replica.new.lines c.start.new.lines c.push.new.self n.fresh n.told (e.cut (ap Err c.in-Err-Disk.field-0-is)) (c.in_ok-push-in-Err-Disk.ensures.ok ∙ ap (λ (q : ℕ). c.start.new.lines ++ says.Fault q ∷ []) c.requires.first) in
-    (boots_unstarted c.in-Some.opened n.log (g.M.Disk.images c.start.new.disk) c.push.new.self n.is_new (e.stop n.log n.is_open) lines).1
+    let lines = cut_lines c.in-Some.opened c.open_replica.new.lines c.start_epoch.new.lines c.push.new.self n.fresh n.told (cut_of c.in-Some.opened c.open_replica.new.lines c.start_epoch.new.lines (e.cut (ap Err c.in-Err-Disk.field-0-is))) (c.in_ok-push-in-Err-Disk.ensures.ok ∙ ap (λ (q : ℕ). c.start_epoch.new.lines ++ says.Fault q ∷ []) c.requires.first) in
+    (boots_unstarted c.in-Some.opened n.log (g.M.Disk.images c.start_epoch.new.disk) c.push.new.self n.is_new (e.stop n.log n.is_open) lines).1
 
 pub returns-in-Err-Disk-clause-faults : goal.returns-in-Err-Disk-clause-faults
 returns-in-Err-Disk-clause-faults g c =
@@ -89,7 +89,7 @@ returns-in-Err-Disk-clause-faults g c =
     let done = c.in_ok-opened.ensures in
     let n = over_new _ c.in-Some.opened (g.M.Disk.images c.args.disk.now) (g.M.Disk.images disk) (g.M.Disk.seen disk) _ _ c.requires.untold c.in-Some.is c.requires.empty done.stop (g.met.M.CrashDisk.tells disk) (g.met.M.Disk.seen_is_image disk) done.opened done.fresh done.told in
     let e = c.in-Err-Disk.ensures in
-    let lines = cut_lines c.in-Some.opened c.open_replica.new.lines c.start.new.lines c.push.new.self n.fresh n.told (e.cut (ap Err c.in-Err-Disk.field-0-is)) (c.in_ok-push-in-Err-Disk.ensures.ok ∙ ap (λ (q : ℕ). c.start.new.lines ++ says.Fault q ∷ []) c.requires.first) in
+    let lines = cut_lines c.in-Some.opened c.open_replica.new.lines c.start_epoch.new.lines c.push.new.self n.fresh n.told (cut_of c.in-Some.opened c.open_replica.new.lines c.start_epoch.new.lines (e.cut (ap Err c.in-Err-Disk.field-0-is))) (c.in_ok-push-in-Err-Disk.ensures.ok ∙ ap (λ (q : ℕ). c.start_epoch.new.lines ++ says.Fault q ∷ []) c.requires.first) in
     let one = one_fault c.push.new.self lines in
     let first = done.cause.later in
     let second = e.cause.later in
@@ -107,7 +107,7 @@ returns-in-Ok-clause-others g c =
     let done = c.in_ok-opened.ensures in
     let n = over_new _ c.in-Some.opened (g.M.Disk.images c.args.disk.now) (g.M.Disk.images disk) (g.M.Disk.seen disk) _ _ c.requires.untold c.in-Some.is c.requires.empty done.stop (g.met.M.CrashDisk.tells disk) (g.met.M.Disk.seen_is_image disk) done.opened done.fresh done.told in
     let e = c.in-Ok.ensures in
-    λ q. ap (faults_in (suc q)) (started_lines c.in-Some.opened c.open_replica.new.lines c.start.new.lines n.fresh n.told e.told)
+    λ q. ap (faults_in (suc q)) (started_lines c.in-Some.opened c.open_replica.new.lines c.start_epoch.new.lines n.fresh n.told e.told)
 
 pub returns-in-Err-Disk-clause-others : goal.returns-in-Err-Disk-clause-others
 returns-in-Err-Disk-clause-others g c =
@@ -115,5 +115,27 @@ returns-in-Err-Disk-clause-others g c =
     let done = c.in_ok-opened.ensures in
     let n = over_new _ c.in-Some.opened (g.M.Disk.images c.args.disk.now) (g.M.Disk.images disk) (g.M.Disk.seen disk) _ _ c.requires.untold c.in-Some.is c.requires.empty done.stop (g.met.M.CrashDisk.tells disk) (g.met.M.Disk.seen_is_image disk) done.opened done.fresh done.told in
     let e = c.in-Err-Disk.ensures in
-    let lines = cut_lines c.in-Some.opened c.open_replica.new.lines c.start.new.lines c.push.new.self n.fresh n.told (e.cut (ap Err c.in-Err-Disk.field-0-is)) (c.in_ok-push-in-Err-Disk.ensures.ok ∙ ap (λ (q : ℕ). c.start.new.lines ++ says.Fault q ∷ []) c.requires.first) in
+    let lines = cut_lines c.in-Some.opened c.open_replica.new.lines c.start_epoch.new.lines c.push.new.self n.fresh n.told (cut_of c.in-Some.opened c.open_replica.new.lines c.start_epoch.new.lines (e.cut (ap Err c.in-Err-Disk.field-0-is))) (c.in_ok-push-in-Err-Disk.ensures.ok ∙ ap (λ (q : ℕ). c.start_epoch.new.lines ++ says.Fault q ∷ []) c.requires.first) in
     fault_of_zero c.push.new.self lines
+
+pub returns-in_default-clause-ruled : goal.returns-in_default-clause-ruled
+returns-in_default-clause-ruled g c =
+    let done = c.in_ok-opened.ensures in
+    (boots_unopened (g.M.Disk.images c.args.disk.now) (g.M.Disk.images c.open_replica.new.disk) c.open_replica.new.lines c.requires.empty done.stop (done.faulted (ap Ok c.in_default.is) ∙ ap (λ ls. ls ++ says.Fault 0 ∷ []) c.requires.untold)).2
+
+pub returns-in-Ok-clause-ruled : goal.returns-in-Ok-clause-ruled
+returns-in-Ok-clause-ruled g c =
+    let disk = c.open_replica.new.disk in
+    let done = c.in_ok-opened.ensures in
+    let n = over_new _ c.in-Some.opened (g.M.Disk.images c.args.disk.now) (g.M.Disk.images disk) (g.M.Disk.seen disk) _ _ c.requires.untold c.in-Some.is c.requires.empty done.stop (g.met.M.CrashDisk.tells disk) (g.met.M.Disk.seen_is_image disk) done.opened done.fresh done.told in
+    let e = c.in-Ok.ensures in
+    (boots_whole c.in-Some.opened c.start_epoch.new.opened n.log (g.M.Disk.images c.start_epoch.new.disk) c.open_replica.new.lines c.start_epoch.new.lines n.fresh n.is_new e.kept (e.stands n.log n.is_open) n.told e.told).2
+
+pub returns-in-Err-Disk-clause-ruled : goal.returns-in-Err-Disk-clause-ruled
+returns-in-Err-Disk-clause-ruled g c =
+    let disk = c.open_replica.new.disk in
+    let done = c.in_ok-opened.ensures in
+    let n = over_new _ c.in-Some.opened (g.M.Disk.images c.args.disk.now) (g.M.Disk.images disk) (g.M.Disk.seen disk) _ _ c.requires.untold c.in-Some.is c.requires.empty done.stop (g.met.M.CrashDisk.tells disk) (g.met.M.Disk.seen_is_image disk) done.opened done.fresh done.told in
+    let e = c.in-Err-Disk.ensures in
+    let lines = cut_lines c.in-Some.opened c.open_replica.new.lines c.start_epoch.new.lines c.push.new.self n.fresh n.told (cut_of c.in-Some.opened c.open_replica.new.lines c.start_epoch.new.lines (e.cut (ap Err c.in-Err-Disk.field-0-is))) (c.in_ok-push-in-Err-Disk.ensures.ok ∙ ap (λ (q : ℕ). c.start_epoch.new.lines ++ says.Fault q ∷ []) c.requires.first) in
+    (boots_unstarted c.in-Some.opened n.log (g.M.Disk.images c.start_epoch.new.disk) c.push.new.self n.is_new (e.stop n.log n.is_open) lines).2

@@ -8,16 +8,16 @@ use Rattle.world.proofs.Quietly.{arm_does}
 use Rattle.world.proofs.Still.{stands_still}
 use Rattle.world.proofs.world.World.arm.Goals as goal
 
-pub returns-then-not-self-clause-serves : goal.returns-then-not-self-clause-serves
-returns-then-not-self-clause-serves g c =
+pub returns-then-not-is_booted-clause-serves : goal.returns-then-not-is_booted-clause-serves
+returns-then-not-is_booted-clause-serves g c =
     let done = c.answered.ensures in
-    let fresh = new_refuses c.args.self.now (g.M.Disk.images c.args.disk.now) (Arm 0 c.args.calls) (ap (λ k. k.booted) (sym c.self.view_is) ∙ c.if-not-self.true) refl in
+    let fresh = new_refuses c.args.self.now (g.M.Disk.images c.args.disk.now) (Arm 0 c.args.calls) (sym c.is_booted.ensures ∙ c.if-not-is_booted.true) refl in
     answered_serves _ _ _ _ (says.Refused 9) c.args.number _ done.lines done.stays done.memory (omega arith) (λ m s. answered_refused m (Arm 0 c.args.calls) (says.Refused 9) (fresh m s))
 
 pub returns-then-is_none-clause-serves : goal.returns-then-is_none-clause-serves
 returns-then-is_none-clause-serves g c =
     let done = c.answered-then-is_none.ensures in
-    let booted = ap (λ k. k.booted) (sym c.self.view_is) ∙ c.if-not-self.false in
+    let booted = sym c.is_booted.ensures ∙ c.if-not-is_booted.false in
     let none = ap (λ k. k.replica) (sym c.self.view_is) ∙ none_of c.self.inside.replica (c.is_none.ensures ∙ ap not c.if-is_none.true) in
     let down = arm_down c.args.self.now (g.M.Disk.images c.args.disk.now) c.args.calls booted none in
     answered_serves _ _ _ _ (says.Down c.args.replica) c.args.number _ done.lines done.stays done.memory (omega arith) (λ m s. answered_refused m (Arm 0 c.args.calls) (says.Down c.args.replica) (down m s ∙ ap (λ q. Some (says.Down q)) (sym c.requires.first)))
@@ -29,6 +29,6 @@ returns-in_err-lines-clause-serves g c =
 pub returns-clause-serves : goal.returns-clause-serves
 returns-clause-serves g c =
     let done = c.in_ok-lines.ensures in
-    let booted = ap (λ k. k.booted) (sym c.self.view_is) ∙ c.if-not-self.false in
+    let booted = sym c.is_booted.ensures ∙ c.if-not-is_booted.false in
     let there = some_of c.self.inside.replica (c.is_none.ensures ∙ ap not c.if-is_none.false) in
     arm_does c.args.self.now c.answered-2.new.self _ _ there.0 c.args.calls c.args.number _ booted (ap (λ k. k.replica) (sym c.self.view_is) ∙ there.1) (omega arith) c.arm.ensures.stays.no_image_more done.stays done.lines

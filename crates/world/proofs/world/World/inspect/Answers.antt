@@ -12,16 +12,16 @@ use Rattle.world.proofs.Still.{stands_still}
 use Rattle.world.proofs.Faultless.{others_rows}
 use Rattle.world.proofs.world.World.inspect.Goals as goal
 
-pub returns-then-not-self-clause-serves : goal.returns-then-not-self-clause-serves
-returns-then-not-self-clause-serves g c =
+pub returns-then-not-is_booted-clause-serves : goal.returns-then-not-is_booted-clause-serves
+returns-then-not-is_booted-clause-serves g c =
     let done = c.answered.ensures in
-    let fresh = new_refuses c.args.self.now (g.M.Disk.images c.args.disk.now) (Inspect 0) (ap (λ k. k.booted) (sym c.self.view_is) ∙ c.if-not-self.true) refl in
+    let fresh = new_refuses c.args.self.now (g.M.Disk.images c.args.disk.now) (Inspect 0) (sym c.is_booted.ensures ∙ c.if-not-is_booted.true) refl in
     answered_serves _ _ _ _ (says.Refused 9) c.args.number _ done.lines done.stays done.memory (omega arith) (λ m s. answered_refused m (Inspect 0) (says.Refused 9) (fresh m s))
 
 pub returns-in_default-clause-serves : goal.returns-in_default-clause-serves
 returns-in_default-clause-serves g c =
     let done = c.answered-in_default.ensures in
-    let booted = ap (λ k. k.booted) (sym c.self.view_is) ∙ c.if-not-self.false in
+    let booted = sym c.is_booted.ensures ∙ c.if-not-is_booted.false in
     let down = inspect_down c.args.self.now (g.M.Disk.images c.args.disk.now) booted (ap (λ k. k.replica) (sym c.self.view_is) ∙ c.in_default.is) in
     answered_serves _ _ _ _ (says.Down c.args.replica) c.args.number _ done.lines done.stays done.memory (omega arith) (λ m s. answered_refused m (Inspect 0) (says.Down c.args.replica) (down m s ∙ ap (λ q. Some (says.Down q)) (sym c.requires.first)))
 
@@ -31,7 +31,7 @@ returns-in_err-lines-clause-serves g c =
 
 pub returns-clause-serves : goal.returns-clause-serves
 returns-clause-serves g c =
-    let booted = ap (λ k. k.booted) (sym c.self.view_is) ∙ c.if-not-self.false in
+    let booted = sym c.is_booted.ensures ∙ c.if-not-is_booted.false in
     inspect_does c.args.self.now _ (g.M.Disk.images c.args.disk.now) c.in-Some.opened c.args.number c.in_ok-lines.lines booted (ap (λ k. k.replica) (sym c.self.view_is) ∙ c.in-Some.is) (omega arith) (ap (λ (k : Kept). record k { last = c.args.number }) c.self.view_is)
     (c.in_ok-lines.ensures ∙ (ap (λ (q : ℕ). says.State q (length (rows_of c.contents.result.now)) ∷ map says.Rows (rows_of c.contents.result.now)) c.requires.first ∙ ap (λ (state : State). says.State 0 (length (rows_of state)) ∷ map says.Rows (rows_of state)) c.contents.ensures))
 

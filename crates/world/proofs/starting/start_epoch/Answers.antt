@@ -1,0 +1,24 @@
+use Rattle.std.proofs.Common.{refl}
+use Rattle.replica.specs.declared.step.StepEvent.TheVariants as steps
+use Rattle.world.specs.Steps.{log_once}
+use Rattle.world.proofs.Stepping.{finished_twice, holds_second, stands_second}
+use Rattle.world.proofs.starting.start_epoch.Goals as goal
+
+pub returns-in_err-take_step-clause-stop : goal.returns-in_err-take_step-clause-stop
+returns-in_err-take_step-clause-stop g c = λ log o.
+    let once = c.in_ok-take_start.ensures in
+    holds_second c.args.opened.now c.take_start.new.opened (steps.Start c.args.epoch) log _ refl once.kept (c.in_err-take_step.ensures.stop (log_once c.args.opened.now (steps.Start c.args.epoch) log) (once.stands log o))
+
+pub returns-clause-stands : goal.returns-clause-stands
+returns-clause-stands g c = λ log o.
+    let once = c.in_ok-take_start.ensures in
+    stands_second c.args.opened.now c.take_start.new.opened c.take_step.new.opened (steps.Start c.args.epoch) log _ once.kept (c.in_ok-take_step.ensures.stands (log_once c.args.opened.now (steps.Start c.args.epoch) log) (once.stands log o))
+
+pub returns-clause-stop : goal.returns-clause-stop
+returns-clause-stop g c = λ log o.
+    let once = c.in_ok-take_start.ensures in
+    holds_second c.args.opened.now c.take_start.new.opened (steps.Start c.args.epoch) log _ refl once.kept (c.in_ok-take_step.ensures.stop (log_once c.args.opened.now (steps.Start c.args.epoch) log) (once.stands log o))
+
+pub returns-clause-kept : goal.returns-clause-kept
+returns-clause-kept g c =
+    finished_twice c.args.opened.now c.take_start.new.opened c.take_step.new.opened (steps.Start c.args.epoch) refl c.in_ok-take_start.ensures.kept c.in_ok-take_step.ensures.kept
