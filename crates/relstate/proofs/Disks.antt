@@ -1,5 +1,5 @@
 -- What a run keeps of the disks of its fleet.
-use Rattle.std.proofs.Common.{◌≡◌, ◌∙◌, sym, ap, subst, ℕ, ◌+◌, ◌≤◌, Bool, true, false, List, [], ◌∷◌, ◌++◌, length, Option, Some, None, Result, Ok, Err, refl, inl, inr, arith, ◌==◌, ◌⊎◌}
+use Rattle.std.proofs.Common.{◌≡◌, ◌∙◌, sym, ap, subst, ℕ, ◌+◌, ◌≤◌, Bool, true, false, List, [], ◌∷◌, ◌++◌, length, Option, Some, None, Result, Ok, Err, refl, inl, inr, arith, ◌==◌, ◌⊎◌, MatchBool}
 use Rattle.std.specs.List.{list_any, All}
 use Rattle.std.proofs.lemmas.Bool.{false≢true, eqb-true}
 use Rattle.std.proofs.lemmas.List.Elements.{All-head}
@@ -20,8 +20,8 @@ use Rattle.replica.specs.Open.{Open}
 use Rattle.world.specs.declared.error.WorldError.{WorldError}
 use Rattle.world.specs.Disks.{DiskHolds, DisksHold, QuorumHolds}
 use Rattle.world.specs.Fleet.{images_of, faults_of, marks_of, faults_in, fault_lines, is_done, marked, marked_by, marks_after, RoseBy}
-use Rattle.world.specs.Kept.{Kept, no_events}
-use Rattle.world.specs.World.{StandsFor, AsReplica, AsRole, StillHolds, Serves}
+use Rattle.world.specs.Kept.{Kept, no_events, has_booted}
+use Rattle.world.specs.World.{StandsFor, AsReplica, AsRole, IsRuled, IsNew, StillHolds, Serves}
 use Rattle.world.proofs.Still.{stands_still}
 use Rattle.relstate.specs.Fleet.{IsFresh, no_bytes, no_marks, faults_told, marks_told, AreTold, AreToldBut, Keeps}
 use Rattle.relstate.specs.Reached.{Done}
@@ -36,13 +36,17 @@ config_of_replica : (o : Option Open) (last : ℕ) (images : Areas → Type 0) (
 config_of_replica None last images m s = ap (λ (n : Machine). n.config) s.is_shut.is
 config_of_replica (Some r) last images m s = config_of_role r.role last r images m s
 
-config_by : (booted : Bool) (k : Kept) (images : Areas → Type 0) (m : Machine) → k.booted ≡ booted → StandsFor k images m → is_booted m ≡ true → m.config ≡ 0 ∷ []
-config_by true k images m e s b = config_of_replica k.replica k.last images m (rw e at s)
-config_by false k images m e s b = absurd (let n = rw e at s in false≢true (subst (λ w. is_booted w ≡ true) n.is b))
+config_by : (booted : Bool) (k : Kept) (images : Areas → Type 0) (m : Machine) → has_booted k ≡ booted → StandsFor k images m → is_booted m ≡ true → m.config ≡ 0 ∷ []
+config_by true k images m e s b =
+    let stands = subst (λ w. MatchBool w (AsReplica k.replica k.last images m × IsRuled k m) (IsNew k images m)) e s in
+    config_of_replica k.replica k.last images m stands.0
+config_by false k images m e s b =
+    let new = subst (λ w. MatchBool w (AsReplica k.replica k.last images m × IsRuled k m) (IsNew k images m)) e s in
+    absurd (false≢true (subst (λ w. is_booted w ≡ true) new.is b))
 
 -- once a world was booted, replica 0 alone is in its configuration
 pub config_is : (k : Kept) (images : Areas → Type 0) (m : Machine) → StandsFor k images m → is_booted m ≡ true → m.config ≡ 0 ∷ []
-config_is k images m s b = config_by k.booted k images m refl s b
+config_is k images m s b = config_by (has_booted k) k images m refl s b
 
 alone : (r : ℕ) → list_any (λ member. member == r) (0 ∷ []) ≡ true → 0 ≡ r
 alone r is = eqb-true 0 r (either (0 == r) is)
@@ -114,7 +118,7 @@ fresh_stands {M} images faults marks calls_left (disk ∷ disks) fresh =
 
 -- before the first event
 pub first_stands : (images : Areas → Type 0) (world : Kept) → StandFor no_log images → world ≡ no_events → StandsFor world images empty_machine
-first_stands images world h e = subst (λ w. StandsFor w images empty_machine) (sym e) (record { is = refl; closed = refl; empty = h })
+first_stands images world h e = subst (λ w. StandsFor w images empty_machine) (sym e) (record { is = refl; closed = refl; unordered = refl; empty = h })
 
 -- ---- what a run keeps
 

@@ -17,6 +17,8 @@ use std::env;
 use std::process::ExitCode;
 
 #[cfg(test)]
+mod epoch_tests;
+#[cfg(test)]
 mod row_tests;
 #[cfg(test)]
 mod tests;

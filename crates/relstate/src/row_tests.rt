@@ -16,14 +16,19 @@ const COMMITTED_TEXT: &[u8] =
     b"1 up 0\n1 view 0 0\n1 active 0\n1 ok\n2 txn 0.1.1\n3 true\n4 ok\n5 order 0.1.1 make:d:dict put:d:k:v\n5 view 0 1\n5 committed 0.1.1\n";
 
 // Two texts, one behind the other.
-fn joined(alloc: Global, first: &[u8], second: &[u8]) -> Result<Vec<u8>, AllocError> {
+pub fn joined(alloc: Global, first: &[u8], second: &[u8]) -> Result<Vec<u8>, AllocError> {
     let mut text = Vec::from_slice(alloc, first)?;
     text.extend_from_slice(second)?;
     Ok(text)
 }
 
 // Behind the `set` of the first transaction, these sentences are answered so.
-fn uncommitted(rt: &impl Abort, alloc: Global, script: &[u8], wanted: &[u8]) -> Result<(), Fail> {
+pub fn uncommitted(
+    rt: &impl Abort,
+    alloc: Global,
+    script: &[u8],
+    wanted: &[u8],
+) -> Result<(), Fail> {
     let (status, text) = answered(alloc, &joined(alloc, FIRST, script)?)?;
     assert_eq!(rt; status, 0);
     assert_eq!(rt; text, joined(alloc, FIRST_TEXT, wanted)?);
@@ -31,7 +36,7 @@ fn uncommitted(rt: &impl Abort, alloc: Global, script: &[u8], wanted: &[u8]) -> 
 }
 
 // Behind its commit, they are.
-fn committed(rt: &impl Abort, alloc: Global, script: &[u8], wanted: &[u8]) -> Result<(), Fail> {
+pub fn committed(rt: &impl Abort, alloc: Global, script: &[u8], wanted: &[u8]) -> Result<(), Fail> {
     let (status, text) = answered(alloc, &joined(alloc, COMMITTED, script)?)?;
     assert_eq!(rt; status, 0);
     assert_eq!(rt; text, joined(alloc, COMMITTED_TEXT, wanted)?);

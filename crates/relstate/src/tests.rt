@@ -176,7 +176,7 @@ fn closed_is_down(rt: HostRuntime) -> Result<(), Fail> {
 }
 
 // Adds a text and a number to a script.
-fn add(script: &mut Vec<u8>, text: &[u8], number: u64) -> Result<(), AllocError> {
+pub fn add(script: &mut Vec<u8>, text: &[u8], number: u64) -> Result<(), AllocError> {
     let mut buffer = Buffer::new();
     script.extend_from_slice(text)?;
     script.extend_from_slice(buffer.format(number).as_bytes())
@@ -227,17 +227,29 @@ fn stop_in_transaction(alloc: Global, calls: u64, pick: u64) -> Result<Vec<u8>, 
         b"\nbegin 0\nmake 0 0.1.1 d dict\nset 0 0.1.1 d k v\ncommit 0 0.1.1\ncrash 0 ",
         pick,
     )?;
-    script.extend_from_slice(b"\nreboot 0\ninspect 0\n")?;
+    script.extend_from_slice(b"\nreboot 0\nsurvey 0 0.2\nappoint 0.2 0 0\ninspect 0\n")?;
     Ok(script)
 }
 
 // Where no call of the disk fails.
 const NO_FAULT: &[u8] =
-    b"1 up 0\n1 view 0 0\n1 active 0\n1 ok\n2 ok\n3 txn 0.1.1\n4 true\n5 ok\n6 order 0.1.1 make:d:dict put:d:k:v\n6 view 0 1\n6 committed 0.1.1\n7 ok\n8 up 0\n8 view 0 1\n9 state 0 1\n9 rows d dict k=v\n";
+    b"1 up 0\n1 view 0 0\n1 active 0\n1 ok\n2 ok\n3 txn 0.1.1\n4 true\n5 ok\n6 order 0.1.1 make:d:dict put:d:k:v\n6 view 0 1\n6 committed 0.1.1\n7 ok\n8 up 0\n8 view 0 1\n9 progress 0 0.1 7\n10 active 0\n10 ok\n11 state 0 1\n11 rows d dict k=v\n";
 
-// Whether the stop left the whole transaction, or nothing of it.
+// Whether the stop left the whole transaction, or nothing of it where it wasn't acknowledged.
 fn is_whole_or_none(text: &[u8]) -> bool {
-    text.ends_with(b"\n9 state 0 1\n9 rows d dict k=v\n") || text.ends_with(b"\n9 state 0 0\n")
+    text.ends_with(b"\n11 state 0 1\n11 rows d dict k=v\n")
+        || (text.ends_with(b"\n11 state 0 0\n") && !is_acknowledged(text))
+}
+
+// Whether the commit was acknowledged.
+fn is_acknowledged(text: &[u8]) -> bool {
+    let line = b"\n6 committed 0.1.1\n";
+    for at in 0..text.len() {
+        if text[at..].starts_with(line) {
+            return true;
+        }
+    }
+    false
 }
 
 // Whether that is so at each call that fails, up to a run in which none does.
@@ -300,7 +312,7 @@ fn bad_lines(rt: HostRuntime) -> Result<(), Fail> {
     // A sentence that is not built.
     let (status, text) = ran(
         alloc,
-        b"begin 0\nboot 0 0\nbegin 0\nbegin 0\nappoint 0.2 0 0",
+        b"begin 0\nboot 0 0\nbegin 0\nbegin 0\nappoint 0.2 0 0,1",
         None,
         Vec::new(alloc),
     )?;
