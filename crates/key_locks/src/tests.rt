@@ -1,6 +1,7 @@
 use super::*;
 use rc_base::{Bytes, Epoch, Name, TxnId};
 use std::alloc::Global;
+use std::process::Abort;
 use std::test::*;
 
 fn txn(n: u64) -> TxnId {
@@ -24,26 +25,57 @@ fn held_by(answer: Result<(), TakeError>) -> Result<u64, Fail> {
     }
 }
 
+// A transaction that asks for a mode on a name, and the one that holds it against that, or 0.
+type Request = (u64, LockMode, u64);
+
+// Each asks in turn, and is answered so.
+fn ask(
+    rt: &impl Abort,
+    locks: &mut Locks,
+    name: &LockName,
+    requests: &[Request],
+) -> Result<(), Fail> {
+    for (n, mode, holder) in requests {
+        let answer = locks.take(txn(*n), name, *mode);
+        assert_eq!(rt; held_by(answer)?, *holder, "{n}");
+    }
+    Ok(())
+}
+
+// The mode in which the transaction holds the name.
+fn holds(rt: &impl Abort, locks: &Locks, n: u64, name: &LockName, mode: Option<LockMode>) {
+    assert!(rt; locks.mode_of(txn(n), name) == mode, "{n}");
+}
+
 // Transaction 1 is granted the first mode, and transaction 2 asks for the second.
-fn second(alloc: Global, first: LockMode, second: LockMode) -> Result<u64, Fail> {
+fn second(
+    rt: &impl Abort,
+    alloc: Global,
+    first: LockMode,
+    second: LockMode,
+    holder: u64,
+) -> Result<(), Fail> {
     let mut locks = Locks::new(alloc);
     let name = key(alloc, b"d", b"k")?;
-    locks.take(txn(1), &name, first)?;
-    held_by(locks.take(txn(2), &name, second))
+    ask(rt, &mut locks, &name, &[(1, first, 0), (2, second, holder)])
 }
 
 #[test]
 fn lock_table(rt: HostRuntime) -> Result<(), Fail> {
-    let alloc = rt.alloc();
-    assert_eq!(rt; second(alloc, LockMode::Shared, LockMode::Shared)?, 0);
-    assert_eq!(rt; second(alloc, LockMode::Shared, LockMode::Update)?, 0);
-    assert_eq!(rt; second(alloc, LockMode::Shared, LockMode::Exclusive)?, 1);
-    assert_eq!(rt; second(alloc, LockMode::Update, LockMode::Shared)?, 1);
-    assert_eq!(rt; second(alloc, LockMode::Update, LockMode::Update)?, 1);
-    assert_eq!(rt; second(alloc, LockMode::Update, LockMode::Exclusive)?, 1);
-    assert_eq!(rt; second(alloc, LockMode::Exclusive, LockMode::Shared)?, 1);
-    assert_eq!(rt; second(alloc, LockMode::Exclusive, LockMode::Update)?, 1);
-    assert_eq!(rt; second(alloc, LockMode::Exclusive, LockMode::Exclusive)?, 1);
+    let table = [
+        (LockMode::Shared, LockMode::Shared, 0),
+        (LockMode::Shared, LockMode::Update, 0),
+        (LockMode::Shared, LockMode::Exclusive, 1),
+        (LockMode::Update, LockMode::Shared, 1),
+        (LockMode::Update, LockMode::Update, 1),
+        (LockMode::Update, LockMode::Exclusive, 1),
+        (LockMode::Exclusive, LockMode::Shared, 1),
+        (LockMode::Exclusive, LockMode::Update, 1),
+        (LockMode::Exclusive, LockMode::Exclusive, 1),
+    ];
+    for (first, behind, holder) in table {
+        second(&rt, rt.alloc(), first, behind, holder)?;
+    }
     Ok(())
 }
 
@@ -51,21 +83,23 @@ fn lock_table(rt: HostRuntime) -> Result<(), Fail> {
 fn conflicting_writers(rt: HostRuntime) -> Result<(), Fail> {
     let mut locks = Locks::new(rt.alloc());
     let name = key(rt.alloc(), b"d", b"k")?;
-    assert_eq!(rt; held_by(locks.take(txn(2), &name, LockMode::Exclusive))?, 0);
-    assert_eq!(rt; held_by(locks.take(txn(3), &name, LockMode::Exclusive))?, 2);
+    let before = [(2, LockMode::Exclusive, 0), (3, LockMode::Exclusive, 2)];
+    ask(&rt, &mut locks, &name, &before)?;
     locks.release(txn(2));
-    assert_eq!(rt; held_by(locks.take(txn(3), &name, LockMode::Exclusive))?, 0);
-    Ok(())
+    ask(&rt, &mut locks, &name, &[(3, LockMode::Exclusive, 0)])
 }
 
 #[test]
 fn shared_again_beside_update(rt: HostRuntime) -> Result<(), Fail> {
     let mut locks = Locks::new(rt.alloc());
     let name = key(rt.alloc(), b"d", b"k")?;
-    assert_eq!(rt; held_by(locks.take(txn(1), &name, LockMode::Shared))?, 0);
-    assert_eq!(rt; held_by(locks.take(txn(2), &name, LockMode::Update))?, 0);
-    assert_eq!(rt; held_by(locks.take(txn(1), &name, LockMode::Shared))?, 2);
-    assert!(rt; locks.mode_of(txn(1), &name) == Some(LockMode::Shared));
+    let requests = [
+        (1, LockMode::Shared, 0),
+        (2, LockMode::Update, 0),
+        (1, LockMode::Shared, 2),
+    ];
+    ask(&rt, &mut locks, &name, &requests)?;
+    holds(&rt, &locks, 1, &name, Some(LockMode::Shared));
     Ok(())
 }
 
@@ -73,31 +107,33 @@ fn shared_again_beside_update(rt: HostRuntime) -> Result<(), Fail> {
 fn first_in_order_of_grant(rt: HostRuntime) -> Result<(), Fail> {
     let mut locks = Locks::new(rt.alloc());
     let name = key(rt.alloc(), b"d", b"k")?;
-    for n in [5, 3, 4] {
-        assert_eq!(rt; held_by(locks.take(txn(n), &name, LockMode::Shared))?, 0);
-    }
-    assert_eq!(rt; held_by(locks.take(txn(4), &name, LockMode::Exclusive))?, 5);
-    assert_eq!(rt; held_by(locks.take(txn(5), &name, LockMode::Exclusive))?, 3);
-    assert_eq!(rt; held_by(locks.take(txn(3), &name, LockMode::Update))?, 0);
-    assert_eq!(rt; held_by(locks.take(txn(6), &name, LockMode::Shared))?, 3);
-    Ok(())
+    let requests = [
+        (5, LockMode::Shared, 0),
+        (3, LockMode::Shared, 0),
+        (4, LockMode::Shared, 0),
+        (4, LockMode::Exclusive, 5),
+        (5, LockMode::Exclusive, 3),
+        (3, LockMode::Update, 0),
+        (6, LockMode::Shared, 3),
+    ];
+    ask(&rt, &mut locks, &name, &requests)
 }
 
 #[test]
 fn release_takes_one_away(rt: HostRuntime) -> Result<(), Fail> {
     let mut locks = Locks::new(rt.alloc());
     let (k, l) = (key(rt.alloc(), b"d", b"k")?, key(rt.alloc(), b"d", b"l")?);
-    locks.take(txn(1), &k, LockMode::Shared)?;
-    locks.take(txn(2), &k, LockMode::Shared)?;
-    locks.take(txn(1), &l, LockMode::Exclusive)?;
+    let shared = [(1, LockMode::Shared, 0), (2, LockMode::Shared, 0)];
+    ask(&rt, &mut locks, &k, &shared)?;
+    ask(&rt, &mut locks, &l, &[(1, LockMode::Exclusive, 0)])?;
     locks.release(txn(1));
-    assert!(rt; locks.mode_of(txn(1), &k).is_none());
-    assert!(rt; locks.mode_of(txn(1), &l).is_none());
-    assert!(rt; locks.mode_of(txn(2), &k) == Some(LockMode::Shared));
-    assert_eq!(rt; held_by(locks.take(txn(1), &k, LockMode::Exclusive))?, 2);
-    assert_eq!(rt; held_by(locks.take(txn(2), &l, LockMode::Exclusive))?, 0);
+    holds(&rt, &locks, 1, &k, None);
+    holds(&rt, &locks, 1, &l, None);
+    holds(&rt, &locks, 2, &k, Some(LockMode::Shared));
+    ask(&rt, &mut locks, &k, &[(1, LockMode::Exclusive, 2)])?;
+    ask(&rt, &mut locks, &l, &[(2, LockMode::Exclusive, 0)])?;
     locks.release(txn(7));
-    assert!(rt; locks.mode_of(txn(2), &l) == Some(LockMode::Exclusive));
+    holds(&rt, &locks, 2, &l, Some(LockMode::Exclusive));
     Ok(())
 }
 
@@ -105,31 +141,38 @@ fn release_takes_one_away(rt: HostRuntime) -> Result<(), Fail> {
 fn strongest_mode_stays(rt: HostRuntime) -> Result<(), Fail> {
     let mut locks = Locks::new(rt.alloc());
     let name = key(rt.alloc(), b"d", b"k")?;
-    locks.take(txn(1), &name, LockMode::Shared)?;
-    locks.take(txn(1), &name, LockMode::Exclusive)?;
-    assert!(rt; locks.mode_of(txn(1), &name) == Some(LockMode::Exclusive));
-    locks.take(txn(1), &name, LockMode::Update)?;
-    assert!(rt; locks.mode_of(txn(1), &name) == Some(LockMode::Exclusive));
+    let rising = [(1, LockMode::Shared, 0), (1, LockMode::Exclusive, 0)];
+    ask(&rt, &mut locks, &name, &rising)?;
+    holds(&rt, &locks, 1, &name, Some(LockMode::Exclusive));
+    ask(&rt, &mut locks, &name, &[(1, LockMode::Update, 0)])?;
+    holds(&rt, &locks, 1, &name, Some(LockMode::Exclusive));
     Ok(())
-}
-
-fn take_whole(locks: &mut Locks, n: u64, name: LockName) -> Result<u64, Fail> {
-    held_by(locks.take(txn(n), &name, LockMode::Exclusive))
 }
 
 fn name(alloc: Global) -> Result<Name, Fail> {
     Ok(Name::from_slice(alloc, b"d")?)
 }
 
+// The transaction asks for a name whole.
+fn ask_whole(
+    rt: &impl Abort,
+    locks: &mut Locks,
+    n: u64,
+    name: LockName,
+    holder: u64,
+) -> Result<(), Fail> {
+    ask(rt, locks, &name, &[(n, LockMode::Exclusive, holder)])
+}
+
 #[test]
 fn four_kinds_of_names(rt: HostRuntime) -> Result<(), Fail> {
     let alloc = rt.alloc();
     let mut locks = Locks::new(alloc);
-    assert_eq!(rt; take_whole(&mut locks, 1, LockName::Name(name(alloc)?))?, 0);
-    assert_eq!(rt; take_whole(&mut locks, 2, key(alloc, b"d", b"d")?)?, 0);
-    assert_eq!(rt; take_whole(&mut locks, 3, LockName::Head(name(alloc)?))?, 0);
-    assert_eq!(rt; take_whole(&mut locks, 4, LockName::Tail(name(alloc)?))?, 0);
-    assert_eq!(rt; take_whole(&mut locks, 5, LockName::Tail(name(alloc)?))?, 4);
+    ask_whole(&rt, &mut locks, 1, LockName::Name(name(alloc)?), 0)?;
+    ask_whole(&rt, &mut locks, 2, key(alloc, b"d", b"d")?, 0)?;
+    ask_whole(&rt, &mut locks, 3, LockName::Head(name(alloc)?), 0)?;
+    ask_whole(&rt, &mut locks, 4, LockName::Tail(name(alloc)?), 0)?;
+    ask_whole(&rt, &mut locks, 5, LockName::Tail(name(alloc)?), 4)?;
     Ok(())
 }
 
