@@ -2,7 +2,6 @@
 use Rattle.std.proofs.Common.{◌≡◌, ℕ, zero, suc, ◌+◌, ◌≤◌, ◌==◌, Bool, true, false, cond, List, [], ◌∷◌, ◌++◌, length, take, drop, map, Option, Some, None, refl, sym, ap, subst, ◌∙◌, append_assoc, arith}
 use Rattle.std.specs.Option.{option_map_or, option_and_then}
 use Rattle.std.proofs.lemmas.List.{append-nil, length-append, take-append-le, take-append-drop}
-use Rattle.std.proofs.lemmas.Bool.Decides.{nat_tests}
 use Rattle.std.proofs.lemmas.Option.{none-some}
 use Rattle.std.specs.Ordering.{nat_cmp}
 use Rattle.std.specs.Map.{remove_entry}
@@ -12,6 +11,7 @@ use Rattle.rc_base.specs.declared.ids.Epoch.{Epoch}
 use Rattle.rc_base.specs.declared.ids.Lsn.{Lsn}
 use Rattle.rc_base.specs.declared.ids.TxnId.{TxnId}
 use Rattle.rc_base.specs.Ids.{epoch_lt, no_epoch}
+use Rattle.replica.proofs.EpochOrder.{epoch_le_not, epoch_lt_le}
 use Rattle.coll_model.specs.declared.op.Op.{Op}
 use Rattle.coll_model.specs.Effect.{State, folded}
 use Rattle.script_text.specs.declared.event.Call.{Call}
@@ -34,7 +34,7 @@ use Rattle.replica.specs.declared.step.StepEvent.{StepEvent}
 use Rattle.replica.specs.declared.step.StepEvent.TheVariants as steps
 use Rattle.replica.specs.Open.{Open, stable_told, stable_in, shown_in, AgreesWith}
 use Rattle.replica.specs.Step.{is_active, reply, begin_due, prev_of, logged_op, logged_call, logged_by, logged, going_in, epoch_in, placed, block, behind, lengthened, noted, answered, surveyed, stepped, committed_by, MayStep}
-use Rattle.replica.proofs.OneMore.{stable_push, commits_more, commits_few}
+use Rattle.replica.proofs.OneMore.{stable_push, commits_more}
 use Rattle.replica.proofs.OneRecord.{barrier_grows, epoch_starts}
 use Rattle.txn_front.proofs.Fronts.{IsOver-nothing}
 use Rattle.replica.proofs.Calls.{StepsTo, rests, alone, call_steps}
@@ -46,9 +46,6 @@ pub commits_prefix : (n : ℕ) (log : Items) → (more : List Committed) × (com
 commits_prefix n log =
     let rest = commits_more (take n log) (drop n log) in
     (rest.0, rest.1 ∙ ap commits_in (take-append-drop n log))
-
-pub commits_fewer : (log : Items) → length (commits_in log) ≤ length log
-commits_fewer log = commits_few log
 
 -- ---- the records behind a step
 
@@ -120,9 +117,6 @@ logged_few r steps.Barrier = omega arith
 
 -- ---- a survey
 
-not_both : (a b : Epoch) → epoch_lt a b ≡ true → epoch_lt b a ≡ true → ⊥
-not_both a b p q = grind (arith, nat_tests)
-
 -- it goes on as no primary, with this fence
 laid_down : (r : Open) (v w : Kept) (fence : Epoch) → AgreesWith r v → w.records ≡ v.records → w.identity ≡ v.identity → w.fence ≡ fence → AgreesWith (record r { fence = fence; role = Other; front = nothing no_epoch }) w
 laid_down r v w fence a records identity fence_is =
@@ -152,7 +146,7 @@ survey_steps r v epoch a = by (epoch_lt epoch r.fence) refl (epoch_lt r.fence ep
   where
     by : (low : Bool) → epoch_lt epoch r.fence ≡ low → (up : Bool) → epoch_lt r.fence epoch ≡ up
         → StepsTo (cond low r (record r { fence = cond up epoch r.fence; role = Other; front = nothing no_epoch })) v (cond up (Fence epoch ∷ []) [] ++ []) []
-    by true low true up = absurd (not_both epoch r.fence low up)
+    by true low true up = absurd (epoch_le_not epoch r.fence (epoch_lt_le epoch r.fence low) up)
     by true low false up = rests r v a
     by false low false up = rests (record r { fence = r.fence; role = Other; front = nothing no_epoch }) v (laid_down r v v r.fence a refl refl a.fence)
     by false low true up = record {

@@ -4,6 +4,8 @@ use Rattle.std.specs.Option.{option_map}
 use Rattle.std.proofs.lemmas.List.{append-nil, length-append}
 use Rattle.std.proofs.lemmas.Bool.{false≢true}
 use Rattle.std.proofs.lemmas.Option.{none-some}
+use Rattle.log_store.proofs.Rows.{last_from-push}
+use Rattle.log_store.proofs.Logs.{known_in-push, commits_in-push}
 use Rattle.rc_base.specs.declared.ids.Epoch.{Epoch}
 use Rattle.rc_base.specs.declared.ids.Lsn.{Lsn}
 use Rattle.rc_base.specs.declared.ids.TxnId.{TxnId}
@@ -13,12 +15,11 @@ use Rattle.log_records.specs.declared.record.Record.{Record}
 use Rattle.log_records.specs.declared.record.Record.TheVariants.{Begin}
 use Rattle.txn_table.specs.declared.committed.Committed.{Committed}
 use Rattle.txn_table.specs.declared.known.Known.{Known}
-use Rattle.txn_table.specs.Commits.{Logged, known, commits, commits_behind, commit_in, one_or_none, with_txn, txn_lt, put}
+use Rattle.txn_table.specs.Commits.{Logged, known, commits_behind, commit_in, one_or_none, with_txn, txn_lt, put}
 use Rattle.txn_table.specs.Tables.{followed, with_records}
-use Rattle.txn_table.proofs.Records.{known_append, begin_changes_none}
-use Rattle.txn_table.proofs.Logs.{commits_push}
+use Rattle.txn_table.proofs.Records.{begin_changes_none}
 use Rattle.log_store.specs.Epochs.{later}
-use Rattle.log_store.specs.Log.{Items, last_from, last_epoch, numbered, known_in, commits_in}
+use Rattle.log_store.specs.Log.{Items, last_epoch, numbered, known_in, commits_in}
 use Rattle.replica.specs.Open.{stable_told, stable_in}
 
 -- the position behind a log
@@ -27,30 +28,14 @@ next log = record { 0 = length log + 1 }
 
 -- ---- positions
 
-numbered_append : (lsn : ℕ) (xs ys : Items) → numbered lsn (xs ++ ys) ≡ numbered lsn xs ++ numbered (lsn + length xs) ys
-numbered_append lsn [] ys = let e : lsn ≡ lsn + 0 = omega arith in ap (λ (n : ℕ). numbered n ys) e
-numbered_append lsn (x ∷ xs) ys =
-    let e : (lsn + 1) + length xs ≡ lsn + length (x ∷ xs) = omega arith in
-    ap (λ (rs : List Logged). (record { 0 = lsn }, x.1) ∷ rs) (numbered_append (lsn + 1) xs ys ∙ ap (λ (n : ℕ). numbered (lsn + 1) xs ++ numbered n ys) e)
-
-numbered_push : (log : Items) (epoch : Epoch) (body : Record) → numbered 1 (log ++ (epoch, body) ∷ []) ≡ numbered 1 log ++ (next log, body) ∷ []
-numbered_push log epoch body =
-    let e : 1 + length log ≡ length log + 1 = omega arith in
-    let place : ℕ → List Logged = λ n. (record { 0 = n }, body) ∷ [] in
-    numbered_append 1 log ((epoch, body) ∷ []) ∙ ap (λ (n : ℕ). numbered 1 log ++ place n) e
-
 pub known_push : (log : Items) (epoch : Epoch) (body : Record) → known_in (log ++ (epoch, body) ∷ []) ≡ with_records (known_in log) ((next log, body) ∷ [])
-known_push log epoch body = ap (known []) (numbered_push log epoch body) ∙ known_append [] (numbered 1 log) ((next log, body) ∷ [])
+known_push log epoch body = known_in-push log (epoch, body)
 
 pub commits_in_push : (log : Items) (epoch : Epoch) (body : Record) → commits_in (log ++ (epoch, body) ∷ []) ≡ commits_in log ++ one_or_none (commit_in (known_in log) body)
-commits_in_push log epoch body = ap (commits []) (numbered_push log epoch body) ∙ commits_push [] (numbered 1 log) (next log, body)
-
-last_from_push : (base : Epoch) (log : Items) (item : Epoch × Record) → last_from base (log ++ item ∷ []) ≡ item.0
-last_from_push base [] item = refl
-last_from_push base (x ∷ log) item = last_from_push x.0 log item
+commits_in_push log epoch body = commits_in-push log (epoch, body)
 
 pub last_push : (log : Items) (epoch : Epoch) (body : Record) → last_epoch (log ++ (epoch, body) ∷ []) ≡ epoch
-last_push log epoch body = last_from_push _ log (epoch, body)
+last_push log epoch body = last_from-push _ log (epoch, body)
 
 pub stable_push : (log : Items) (epoch : Epoch) (body : Record) (n : ℕ) → stable_in log ≤ n → stable_told body ≤ n → stable_in (log ++ (epoch, body) ∷ []) ≤ n
 stable_push [] epoch body n low told = omega arith

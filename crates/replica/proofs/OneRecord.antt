@@ -1,17 +1,18 @@
 -- One more record at an active primary: the log goes on with it, and the replica agrees with the longer log.
-use Rattle.std.proofs.Common.{◌≡◌, ◌≢◌, ℕ, ◌+◌, ◌≤◌, ◌==◌, ◌&&◌, not, Bool, true, false, cond, List, [], ◌∷◌, ◌++◌, length, map, flat_map, Option, Some, None, refl, sym, ap, ap₂, subst, ◌∙◌, ◌⊎◌, inl, inr, arith}
+use Rattle.std.proofs.Common.{◌≡◌, ◌≢◌, ℕ, ◌+◌, ◌≤◌, ◌==◌, ◌&&◌, Bool, true, false, cond, List, [], ◌∷◌, ◌++◌, length, map, flat_map, Option, Some, None, refl, sym, ap, ap₂, subst, ◌∙◌, ◌⊎◌, inl, inr, arith}
 use Rattle.std.specs.Prelude.{IsTrue, nat_lt}
 use Rattle.std.specs.Option.{option_map}
 use Rattle.std.proofs.lemmas.List.{append-nil, length-append, take_all}
 use Rattle.std.proofs.lemmas.List.Sums.{fold-append}
 use Rattle.std.proofs.lemmas.Grind.{flat_map-append}
-use Rattle.std.proofs.lemmas.Bool.{false≢true}
+use Rattle.std.proofs.lemmas.Bool.{false≢true, and_from, eq-eqb, cases_eq}
 use Rattle.std.proofs.lemmas.Bool.Decides.{nat_tests}
 use Rattle.std.proofs.lemmas.Option.{none-some}
 use Rattle.rc_base.specs.declared.ids.Epoch.{Epoch}
 use Rattle.rc_base.specs.declared.ids.Lsn.{Lsn}
 use Rattle.rc_base.specs.declared.ids.TxnId.{TxnId}
 use Rattle.rc_base.specs.Ids.{epoch_lt, epoch_le, is_epoch, is_txn}
+use Rattle.replica.proofs.EpochOrder.{epoch_le_same, epoch_le_lt, epoch_le_not, epoch_lt_le}
 use Rattle.rc_base.proofs.SameIds.{is_epoch_same, is_txn-true, is_txn_same}
 use Rattle.coll_model.specs.declared.op.Op.{Op}
 use Rattle.coll_model.specs.Effect.{State, effect, folded}
@@ -37,7 +38,7 @@ use Rattle.replica.specs.Step.{is_active, behind, lengthened, started}
 use Rattle.replica.proofs.OneMore.{next, known_push, commits_in_push, last_push, stable_push, known_is, with_map, with_begin, known_before, known_or_new, fresh, others_stay}
 use Rattle.order_machine.proofs.ProtectedStates.{IsOrdered-folded}
 use Rattle.txn_front.proofs.Fronts.{IsOver-nothing}
-use Rattle.replica.proofs.Puts.{Puts, going_is, same_or_other}
+use Rattle.replica.proofs.Puts.{Puts, going_is}
 
 -- ---- an active primary
 
@@ -53,12 +54,6 @@ whole n log le = ap commits_in (take_all n log le)
 
 pub state_more : (cs ds : List Committed) → state_of (cs ++ ds) ≡ folded (state_of cs) (flat_map (λ c. c.ops) ds)
 state_more cs ds = ap (folded []) (flat_map-append (λ (c : Committed). c.ops) cs ds) ∙ fold-append effect [] (flat_map (λ (c : Committed). c.ops) cs) (flat_map (λ (c : Committed). c.ops) ds)
-
-pub epoch_le_same : (a b : Epoch) → a ≡ b → epoch_le a b ≡ true
-epoch_le_same a b h = subst (λ (e : Epoch). epoch_le a e ≡ true) h (here a)
-  where
-    here : (e : Epoch) → epoch_le e e ≡ true
-    here e = grind (arith, nat_tests)
 
 -- ---- what goes on
 
@@ -80,7 +75,7 @@ other_number t epoch n away = by (is_txn t (record { epoch = epoch; n = n })) re
 -- one transaction has changed at the front and in the log
 pub known_put : (f new : Fronted) (log behind_it : Items) (t : TxnId) (o : Option Going) → t ≡ txn_at f t.n → Puts f new t.n o → OthersStay t log behind_it
     → ((going : Going) → o ≡ Some going → IsKnownAs going (with_txn t (known_in behind_it))) → AreKnown f log → AreKnown new behind_it
-known_put f new log behind_it t o named p others own was n going is = elim (same_or_other n t.n) [
+known_put f new log behind_it t o named p others own was n going is = elim (cases_eq n t.n) [
   | inl same ↦
       let here : o ≡ Some going = sym p.own ∙ ap (λ (m : ℕ). numbered m new.live) (sym same) ∙ is in
       let t_is : t ≡ txn_at new n = named ∙ ap₂ (λ (e : Epoch) (m : ℕ). let u : TxnId = record { epoch = e; n = m } in u) (sym p.epoch) (sym same) in
@@ -187,14 +182,6 @@ grow r v body cs shown contents front a on g shown_is contents_is stays =
 
 -- ---- the transaction that goes on
 
-both : (a b : Bool) → a ≡ true → b ≡ true → a && b ≡ true
-both true true p q = refl
-both true false p q = absurd (false≢true q)
-both false b p q = absurd (false≢true p)
-
-is_same : (n m : ℕ) → n ≡ m → (n == m) ≡ true
-is_same n m e = grind (arith, nat_tests)
-
 -- what the log knows of it
 known_as : (r : Open) (v : Kept) (t : TxnId) (going : Going) → AgreesWith r v → going_of r.front t ≡ Some going → IsKnownAs going (with_txn t (known_in v.records))
 known_as r v t going a is =
@@ -289,7 +276,7 @@ own t going log b =
 
 no_fault : (t : TxnId) (going : Going) (log : Items) (b : IsBegun t going log) → link_fault going.last (with_txn t (known_in log)) ≡ None
 no_fault t going log b =
-    let test : is_pending b.known && (going.last.0 == (last_of b.known).0) ≡ true = both _ _ b.pending (is_same going.last.0 (last_of b.known).0 (ap (λ (l : Lsn). l.0) (sym b.last))) in
+    let test : is_pending b.known && (going.last.0 == (last_of b.known).0) ≡ true = and_from _ _ b.pending (eq-eqb going.last.0 (last_of b.known).0 (ap (λ (l : Lsn). l.0) (sym b.last))) in
     let away : Option (Lsn × Lsn) = Some (going.last, last_of b.known) in
     ap (link_fault going.last) b.is ∙ ap (λ (c : Bool). cond c None away) test
 
@@ -405,12 +392,6 @@ barrier_grows r v a on =
 
 -- ---- an epoch is started
 
-pub above_then : (a b c : Epoch) → epoch_le a b ≡ true → epoch_lt b c ≡ true → epoch_le a c ≡ true
-above_then a b c low up = grind (arith, nat_tests)
-
-not_above : (b c : Epoch) → epoch_le c b ≡ true → epoch_lt b c ≡ true → ⊥
-not_above b c low up = false≢true (ap not (sym up) ∙ low)
-
 -- the start of an epoch goes on with the log, and the replica agrees with it then
 pub record Starts (r : Open) (v : Kept) (epoch : Epoch) : Type 0 where
   pub may : MayCome v (Logical (record { 0 = r.last.0 + 1 }) epoch (EpochStart epoch))
@@ -430,7 +411,7 @@ epoch_starts r v epoch a up =
       may = (
         ap (λ (n : ℕ). n + 1) (sym a.last),
         record {
-          follows = both (is_epoch epoch epoch) (epoch_lt (last_epoch v.records) epoch) (is_epoch_same epoch) (subst (λ (e : Epoch). epoch_lt e epoch ≡ true) (sym a.epoch) up);
+          follows = and_from (is_epoch epoch epoch) (epoch_lt (last_epoch v.records) epoch) (is_epoch_same epoch) (subst (λ (e : Epoch). epoch_lt e epoch ≡ true) (sym a.epoch) up);
           stands = refl;
           linked = refl;
         },
@@ -445,14 +426,14 @@ epoch_starts r v epoch a up =
         shown = ap length here ∙ length-append (commits_to r.stable.0 v.records) r.ahead ∙ ap (λ (n : ℕ). n + length r.ahead) a.shown;
         contents = ap state_of here ∙ state_more (commits_to r.stable.0 v.records) r.ahead ∙ ap (λ (s : State). folded s (flat_map (λ c. c.ops) r.ahead)) a.contents;
         commits = commits ∙ a.commits ∙ sym here ∙ sym (append-nil (commits_to (r.last.0 + 1) log));
-        epochs = λ txn k h. above_then txn.epoch r.epoch epoch (old txn k h) up;
+        epochs = λ txn k h. epoch_lt_le txn.epoch epoch (epoch_le_lt txn.epoch r.epoch epoch (old txn k h) up);
         role = record {
           last_one = refl;
           active = refl;
           stable = refl;
           shown = refl;
           begins_in = refl;
-          counted = λ txn k h same. absurd (not_above r.epoch epoch (subst (λ (e : Epoch). epoch_le e r.epoch ≡ true) same (old txn k h)) up);
+          counted = λ txn k h same. absurd (epoch_le_not epoch r.epoch (subst (λ (e : Epoch). epoch_le e r.epoch ≡ true) same (old txn k h)) up);
         };
         over = IsOver-nothing epoch (folded r.contents (flat_map (λ c. c.ops) r.ahead)) (IsOrdered-folded r.contents (flat_map (λ c. c.ops) r.ahead) a.over.ordered);
         known = λ n going is. absurd (none-some going is);

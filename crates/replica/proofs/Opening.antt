@@ -29,7 +29,8 @@ use Rattle.replica.specs.declared.role.Role.TheVariants.{Other}
 use Rattle.replica.specs.Open.{Open, stable_told, stable_in, commits_to, state_of, AgreesWith}
 use Rattle.replica.specs.Reading.{IsRead, with_commit}
 use Rattle.replica.proofs.OneMore.{next, known_push, commits_in_push, last_push, commits_few, known_before, known_or_new}
-use Rattle.replica.proofs.OneRecord.{whole, state_more, epoch_le_same, above_then}
+use Rattle.replica.proofs.EpochOrder.{epoch_le_same, epoch_le_trans, epoch_lt_le}
+use Rattle.replica.proofs.OneRecord.{whole, state_more}
 
 pub last_item : (e : Epoch) (log : Items) (d : Epoch × Record) (i : ℕ) → i + 1 ≡ length log → last_from e log ≡ (get_or log i d).0
 last_item e [] d i is = absurd (omega arith)
@@ -162,10 +163,7 @@ no_fault (Some k) h = absurd (none-some (nowhere, last_of k) (sym h))
 others_push : (log : Items) (epoch : Epoch) (body : Record) → ((ks : List Known) → with_records ks ((next log, body) ∷ []) ≡ map (followed ((next log, body) ∷ [])) ks) → epoch_le (last_epoch log) epoch ≡ true → EpochsTo log → EpochsTo (log ++ (epoch, body) ∷ [])
 others_push log epoch body maps up e txn known h =
     let before = known_before ((next log, body) ∷ []) txn (known_in log) known (ap (with_txn txn) (sym (maps (known_in log)) ∙ sym (known_push log epoch body)) ∙ h) in
-    subst (λ (l : Epoch). epoch_le txn.epoch l ≡ true) (sym (last_push log epoch body)) (le_le txn.epoch (last_epoch log) epoch (e txn before.0 before.1) up)
-  where
-    le_le : (a b c : Epoch) → epoch_le a b ≡ true → epoch_le b c ≡ true → epoch_le a c ≡ true
-    le_le a b c p q = grind (arith, nat_tests)
+    subst (λ (l : Epoch). epoch_le txn.epoch l ≡ true) (sym (last_push log epoch body)) (epoch_le_trans txn.epoch (last_epoch log) epoch (e txn before.0 before.1) up)
 
 begin_push : (log : Items) (epoch : Epoch) (new : TxnId) → MayStandBehind log epoch (Begin new) → EpochsTo log → EpochsTo (log ++ (epoch, Begin new) ∷ [])
 begin_push log epoch new h e txn known k =
@@ -184,7 +182,7 @@ epochs_push log epoch (End txn prev committed) h e = others_push log epoch (End 
 epochs_push log epoch (Barrier stable) h e = others_push log epoch (Barrier stable) (λ ks. refl) (epoch_le_same (last_epoch log) epoch (sym (is_epoch-true epoch (last_epoch log) h.follows))) e
 epochs_push log epoch (EpochStart named) h e =
     let parts = and_parts (is_epoch named epoch) (epoch_lt (last_epoch log) epoch) h.follows in
-    others_push log epoch (EpochStart named) (λ ks. refl) (above_then (last_epoch log) (last_epoch log) epoch (epoch_le_same (last_epoch log) (last_epoch log) refl) parts.1) e
+    others_push log epoch (EpochStart named) (λ ks. refl) (epoch_lt_le (last_epoch log) epoch parts.1) e
 
 epochs_behind : (before log : Items) → IsLogBehind before log → EpochsTo before → EpochsTo (before ++ log)
 epochs_behind before [] h e = subst EpochsTo (sym (append-nil before)) e

@@ -1,5 +1,5 @@
 -- What goes on under one number of a front is written or ends, and the others stay.
-use Rattle.std.proofs.Common.{◌≡◌, ◌≢◌, ℕ, ◌==◌, List, [], ◌∷◌, Bool, true, false, cond, Option, Some, None, refl, sym, ap, subst, ◌∙◌, ◌⊎◌, inl, inr, arith}
+use Rattle.std.proofs.Common.{◌≡◌, ◌≢◌, ℕ, ◌==◌, List, [], ◌∷◌, Bool, true, false, cond, Option, Some, None, refl, sym, ap, subst, ◌∙◌, arith}
 use Rattle.std.specs.Option.{option_map_or}
 use Rattle.std.specs.List.Sorted.{IsStrictlySortedBy}
 use Rattle.std.specs.Cmp.{nat_cmp_total}
@@ -36,13 +36,6 @@ at_other n m away = by (n == m) refl
 
 equal_is : (n m : ℕ) → nat_cmp n m ≡ Equal → n ≡ m
 equal_is n m h = grind (arith, nat_tests)
-
-pub same_or_other : (n m : ℕ) → (n ≡ m) ⊎ (n ≢ m)
-same_or_other n m = by (n == m) refl
-  where
-    by : (b : Bool) → (n == m) ≡ b → (n ≡ m) ⊎ (n ≢ m)
-    by true is = inl (grind (arith, nat_tests))
-    by false is = inr (λ same. grind (arith, nat_tests))
 
 written_own : {X : Type 0} (n : ℕ) (x : X) (es : List (ℕ × X)) → lookup (is_at (nat_cmp n)) (insert_entry nat_cmp es n x) ≡ Some x
 written_own n x [] = rw (at_same n) refl

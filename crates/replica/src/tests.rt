@@ -160,12 +160,12 @@ fn tells<D: Disk>(
     requires { IsReady replica.old (D.images disk.old) }
     ensures { OnOk result (IsReady replica.new (D.images disk.new)) }
 {
-    let (words, told, last) = step;
-    let event = step_of(rt, alloc, words)?;
+    let (sentence, told, last) = step;
+    let event = step_of(rt, alloc, sentence)?;
     let outcome = take(rt, replica, disk, &event)?;
     let text = text_of(alloc, replica.id(), outcome)?;
-    assert_eq!(rt; text.as_slice(), told.as_bytes(), "{words}");
-    assert_eq!(rt; replica.last(), Lsn(last), "{words}");
+    assert_eq!(rt; text.as_slice(), told.as_bytes(), "{sentence}");
+    assert_eq!(rt; replica.last(), Lsn(last), "{sentence}");
     Ok(())
 }
 

@@ -6,7 +6,7 @@ use Rattle.std.proofs.lemmas.Bool.{false≢true, cond-true}
 use Rattle.std.proofs.lemmas.Option.{same_Some, none-some}
 use Rattle.rc_base.specs.declared.ids.TxnId.{TxnId}
 use Rattle.rc_base.specs.Ids.{is_txn}
-use Rattle.rc_base.proofs.SameIds.{is_txn-true, is_txn_same}
+use Rattle.rc_base.proofs.SameIds.{is_txn-true, is_txn_same, is_txn_equivalence}
 use Rattle.coll_model.specs.Effect.{State}
 use Rattle.key_locks.specs.Grants.{released}
 use Rattle.script_text.specs.declared.event.Event.TheVariants.{Client}
@@ -38,14 +38,6 @@ ended_of x = record x { live = false }
 abbrev done_call : TxnId → Noted
 done_call t = record { call = Abort t; answer = says.Done; op = None }
 
--- is_txn both ways
-pub other_way : (u t : TxnId) → is_txn u t ≡ false → is_txn t u ≡ false
-other_way u t other = by (is_txn t u) refl
-  where
-    by : (b : Bool) → is_txn t u ≡ b → is_txn t u ≡ false
-    by false e = e
-    by true e = absurd (false≢true (sym other ∙ (ap (λ (v : TxnId). is_txn u v) (is_txn-true t u e) ∙ is_txn_same u)))
-
 each_aborted : (front new : Fronted) (shown : ℕ) (contents : State) (m : Machine) (h : Runs front shown contents m) (t : TxnId) (g : Going) (k : IsKnown front shown contents m h t g) → Ends front new t →
     (u : TxnId) (y : Txn) (b : Bool) → is_txn u t ≡ b → cond b (Some (with_call (ended_of k.txn) (done_call t))) (cond b (Some (ended_of k.txn)) (lookup (is_txn u) h.txns)) ≡ Some y → IsKept h.course new (released h.grants t) h.entries h.acknowledged u y
 each_aborted front new shown contents m h t g k c u y true same e =
@@ -68,7 +60,7 @@ each_aborted front new shown contents m h t g k c u y true same e =
     }))
 each_aborted front new shown contents m h t g k c u y false other e =
     kept_other front new front.begins t None (released front.grants t) h.grants (released h.grants t) h.entries h.acknowledged h.course c (omega arith) u y other (h.each u y e)
-    (λ p. AreProtected-released h.grants t u (state_of h.entries) y.calls (other_way u t other) p)
+    (λ p. AreProtected-released h.grants t u (state_of h.entries) y.calls (is_txn_equivalence.symm t u ∙ other) p)
 
 abbrev aborted_txns : (front : Fronted) (shown : ℕ) (contents : State) (m : Machine) (h : Runs front shown contents m) (t : TxnId) (g : Going) → IsKnown front shown contents m h t g → List (TxnId × Txn)
 aborted_txns front shown contents m h t g k = (t, with_call (ended_of k.txn) (done_call t)) ∷ (t, ended_of k.txn) ∷ h.txns

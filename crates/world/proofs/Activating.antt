@@ -4,6 +4,7 @@ use Rattle.std.specs.Prelude.{find, All}
 use Rattle.std.specs.Option.{option_map_or}
 use Rattle.std.proofs.lemmas.List.Elements.{All-head, All-tail}
 use Rattle.std.proofs.lemmas.Option.{same_Some, none-some}
+use Rattle.world.proofs.Booted.{once_standing}
 use Rattle.rc_base.specs.declared.ids.Epoch.{Epoch}
 use Rattle.rc_base.specs.Ids.{is_epoch}
 use Rattle.config_rule.specs.declared.appointments.Appointed.{Appointed}
@@ -13,8 +14,8 @@ use Rattle.script_text.specs.declared.event.Event.TheVariants.{Activate}
 use Rattle.order_machine.specs.declared.observation.Observation.{Observation}
 use Rattle.order_machine.specs.declared.observation.Observation.TheVariants as says
 use Rattle.order_machine.specs.Machine as machine
-use Rattle.order_machine.specs.Machine.{Machine, Appointment, known_of, order_of, has_role}
-use Rattle.order_machine.specs.Rows.{HoldsBehind, refusal, once_booted, at_start, activating, activating_of, dropping, latest_primary}
+use Rattle.order_machine.specs.Machine.{Machine, Appointment, known_of, has_role}
+use Rattle.order_machine.specs.Rows.{HoldsBehind, refusal, at_start, activating, activating_of, dropping, latest_primary}
 use Rattle.order_machine.specs.Legal.{IsWhole, moved}
 use Rattle.world.specs.declared.error.WorldError.{WorldError}
 use Rattle.world.specs.declared.error.WorldError.TheVariants as errors
@@ -29,16 +30,13 @@ use Rattle.world.proofs.Still.{stands_still}
 
 -- ---- refusals
 
-once : (m : Machine) (o : Option Observation) → machine.is_booted m ≡ true → once_booted m o ≡ o
-once m o booted = ap (λ (b : Bool). cond b o (Some (says.Refused 9))) booted
-
 refusal_same : (k : Kept) (images : Areas → Type 0) (e : Epoch) (known : Known) (part : Option ℕ) → k.rule ≡ Some known → broken_activation known e ≡ part → (m : Machine) → StandsFor k images m → refusal m (Activate e) ≡ option_map says.Refused part
 refusal_same k images e known part rule broken m s =
     let booted : has_booted k ≡ true = ap is_some rule in
     let r = ruled_of k images m booted s in
     let same : r.known ≡ known = same_Some r.known known (sym r.rule ∙ rule) in
     let here : broken_activation (known_of m) e ≡ part = sym (activation_same k m r e) ∙ (ap (λ (x : Known). broken_activation x e) same ∙ broken) in
-    once m (option_map says.Refused (broken_activation (known_of m) e)) (booted_stands k images m booted s) ∙ ap (option_map says.Refused) here
+    once_standing m (option_map says.Refused (broken_activation (known_of m) e)) (booted_stands k images m booted s) ∙ ap (option_map says.Refused) here
 
 pub activation_refused : (k : Kept) (images : Areas → Type 0) (e : Epoch) (known : Known) (part : ℕ) → k.rule ≡ Some known → broken_activation known e ≡ Some part → (m : Machine) → StandsFor k images m → refusal m (Activate e) ≡ Some (says.Refused part)
 activation_refused k images e known part rule broken m s = refusal_same k images e known (Some part) rule broken m s

@@ -28,7 +28,7 @@ answered_refused m event o e = let r = refused_serves m event o e in record { wh
 
 -- ---- the event is served
 
-no_memory : (old new : Kept) (before now : Areas → Type 0) (event : Event) (e : WorldError) → ((m : Machine) → StandsFor old before m → StillHolds m now) → ◌≡◌ {A = Result (List Observation) WorldError} (Err e) (Err errors.NoMemory) → Serves old new before now event (Err e)
+pub no_memory : (old new : Kept) (before now : Areas → Type 0) (event : Event) (e : WorldError) → ((m : Machine) → StandsFor old before m → StillHolds m now) → ◌≡◌ {A = Result (List Observation) WorldError} (Err e) (Err errors.NoMemory) → Serves old new before now event (Err e)
 no_memory old new before now event e still is =
     let none : e ≡ errors.NoMemory = cc in
     subst (λ x. Serves old new before now event (Err x)) (sym none) still

@@ -1,7 +1,9 @@
 -- An appointment of replica 0, alone, to an epoch, where it is open: what it tells, and the states behind it.
-use Rattle.std.proofs.Common.{◌≡◌, ◌∙◌, sym, ap, subst, refl, ℕ, ◌+◌, ◌-◌, true, false, List, [], ◌∷◌, ◌++◌, length, map, flat_map, drop, Some, None, arith, append-nil, length-append, append_assoc, inl, inr}
+use Rattle.std.proofs.Common.{◌≡◌, ◌∙◌, sym, ap, subst, refl, ℕ, ◌+◌, ◌-◌, true, false, List, [], ◌∷◌, ◌++◌, length, map, drop, Some, None, arith, append-nil, length-append, append_assoc, inl, inr}
 use Rattle.std.specs.List.{list_all}
 use Rattle.std.proofs.lemmas.List.{length-map, append_cancel_left}
+use Rattle.world.proofs.Surveys.{below_all}
+use Rattle.world.proofs.Sound.{ops_of_entries}
 use Rattle.rc_base.specs.declared.ids.Epoch.{Epoch}
 use Rattle.rc_base.specs.declared.ids.TxnId.{TxnId}
 use Rattle.rc_base.specs.Ids.{epoch_lt}
@@ -26,11 +28,11 @@ use Rattle.world.specs.Running.{running, state_of, RunsWith}
 use Rattle.world.specs.Standing.{Course, standing, shut}
 use Rattle.world.specs.Steps.{told_start, log_once}
 use Rattle.world.specs.World.{Resting}
-use Rattle.world.proofs.Epochs.{epoch_lt_none}
+use Rattle.replica.proofs.EpochOrder.{epoch_lt_none}
 use Rattle.world.proofs.FaultLines.{fault_behind}
 use Rattle.world.proofs.Quiet.{holds_behind}
 use Rattle.world.proofs.Served.{served_from}
-use Rattle.world.proofs.StartCourse.{below_each, latest_below}
+use Rattle.world.proofs.StartCourse.{latest_below}
 use Rattle.world.proofs.StartLines.{appointed_course, active_course, as_entry, with_more, start_at, start_lines, Starts, starts}
 use Rattle.world.proofs.StartLogs.{start, once_agrees, once_commits}
 use Rattle.world.proofs.Started.{started_with}
@@ -68,7 +70,7 @@ pub may_start : (last : ℕ) (r : Open) (images : Areas → Type 0) (m : Machine
 may_start last r images m e h = by h.rests.sound.logged
   where
     by : IsLogged (course_of h) h.rests.log → epoch_lt r.epoch e ≡ true
-    by (inl there) = subst (λ (f : Epoch). epoch_lt f e ≡ true) h.rests.is_open.agrees.epoch (below_each e (last_epoch h.rests.log.records) ((course_of h).first ∷ (course_of h).later) (above_course last r images m e h) there)
+    by (inl there) = subst (λ (f : Epoch). epoch_lt f e ≡ true) h.rests.is_open.agrees.epoch (below_all e (last_epoch h.rests.log.records) ((course_of h).first ∷ (course_of h).later) (above_course last r images m e h) there)
     by (inr empty) = subst (λ (f : Epoch). epoch_lt f e ≡ true) (sym (ap last_epoch empty) ∙ h.rests.is_open.agrees.epoch) (epoch_lt_none (course_of h).latest e (below last r images m e h))
 
 opened_there : (last : ℕ) (r : Open) (images : Areas → Type 0) (m : Machine) (e : Epoch) (h : Appoints last r images m e) → opened m (Appoint e 0 (0 ∷ [])) ≡ start_at h.rests.entries h.rests.rests.acknowledged h.rests.rests.txns (course_then h) r.shown
@@ -104,10 +106,6 @@ pub shown_now : (last : ℕ) (r : Open) (images : Areas → Type 0) (m : Machine
 shown_now last r images m e h =
     let once = once_agrees r h.rests.log e h.rests.is_open.agrees (may_start last r images m e h) in
     sym once.shown ∙ (ap length (shows_all last r images m e h) ∙ length-map (entries_now h) as_commit)
-
-ops_of_entries : (es : List Entry) → flat_map (λ c. c.ops) (map as_commit es) ≡ flat_map (λ e. e.ops) es
-ops_of_entries [] = refl
-ops_of_entries (e ∷ es) = ap (λ rest. e.ops ++ rest) (ops_of_entries es)
 
 contents_now : (last : ℕ) (r : Open) (images : Areas → Type 0) (m : Machine) (e : Epoch) (h : Appoints last r images m e) → (started e r).contents ≡ state_of (entries_now h)
 contents_now last r images m e h =

@@ -4,11 +4,11 @@ use Rattle.std.specs.Option.{option_map_or}
 use Rattle.std.specs.Map.{lookup}
 use Rattle.std.proofs.lemmas.Bool.{cond-true}
 use Rattle.std.proofs.lemmas.Option.{same_Some}
+use Rattle.world.proofs.Plain.{one_commit}
 use Rattle.rc_base.specs.declared.ids.TxnId.{TxnId}
 use Rattle.rc_base.specs.Ids.{is_txn, epoch_le}
 use Rattle.rc_base.proofs.SameIds.{is_txn-true, is_txn_same}
 use Rattle.coll_model.specs.Effect.{State}
-use Rattle.txn_table.specs.declared.committed.Committed.{Committed}
 use Rattle.script_text.specs.declared.event.Call.{Call}
 use Rattle.script_text.specs.declared.event.Call.TheVariants.{Begin, Make, Get, GetForUpdate, Set, Add, Delete, Commit, Abort}
 use Rattle.order_machine.specs.Machine.{Machine, Txn, ended_at, put_txn, put_grants}
@@ -101,7 +101,7 @@ commit_follows last r t g before m on s is =
     let asked : Txn = record k.txn { live = false; asked = true } in
     let there : going_at n 0 t ≡ Some k.txn = cond-true _ (lookup (is_txn t) h.txns) None k.live_there ∙ k.known in
     let txns : (asking n 0 (Commit t)).txns ≡ (t, asked) ∷ h.txns = ap (λ o. (option_map_or (λ x. put_txn n t (record x { live = false; asked = true })) o n).txns) there in
-    let commits : committed_by r (steps.Client (Commit t)) ≡ record { txn = t; ops = g.ops } ∷ [] = ap (λ o. option_map_or (λ (going : Going). one t going) o []) (cond-true (is_active r.role) (going_of r.front t) None on ∙ is) in
+    let commits : committed_by r (steps.Client (Commit t)) ≡ record { txn = t; ops = g.ops } ∷ [] = ap (λ o. option_map_or (λ (going : Going). one_commit t going) o []) (cond-true (is_active r.role) (going_of r.front t) None on ∙ is) in
     let follow : MayFollow h.entries ((t, asked) ∷ h.txns) (record { txn = t; ops = g.ops } ∷ []) = record {
       txn = asked;
       known = cond-true (is_txn t t) (Some asked) (lookup (is_txn t) h.txns) (is_txn_same t);
@@ -112,6 +112,3 @@ commit_follows last r t g before m on s is =
     } in
     subst (MayFollow h.entries (ended_at 0 (asking n 0 (Commit t)).txns)) (sym commits)
     (subst (λ w. MayFollow h.entries (ended_at 0 w) (record { txn = t; ops = g.ops } ∷ [])) (sym txns) (follow_ended h.entries ((t, asked) ∷ h.txns) (record { txn = t; ops = g.ops } ∷ []) follow))
-  where
-    one : TxnId → Going → List Committed
-    one u going = record { txn = u; ops = going.ops } ∷ []

@@ -21,7 +21,7 @@ use Rattle.world.proofs.Answer.{answer_serves}
 use Rattle.world.proofs.Booted.{running_unrefused}
 use Rattle.world.proofs.Changed.{ChangesAt, at_own, at_other, kept_other}
 use Rattle.world.proofs.Quiet.{holds_behind}
-use Rattle.world.proofs.Epochs.{epoch_le_same}
+use Rattle.replica.proofs.EpochOrder.{epoch_le_refl}
 use Rattle.world.proofs.Told.{machine_of}
 
 -- the transaction that begins next
@@ -54,7 +54,7 @@ each_begun front new shown contents m h c not_held not_acked u y true same e =
     let Q : Txn → Type 0 = λ x. IsKept h.course new h.grants h.entries h.acknowledged (next_here h.course front) x in
     subst P (sym u_is) (subst Q (same_Some (fresh (length h.entries)) y e) (record {
       home = refl;
-      within = epoch_le_same h.course.latest;
+      within = epoch_le_refl h.course.latest;
       begun = λ _. let n = c.begins_now in omega (arith, n);
       on = ap is_some (sym own);
       here = λ _. refl;

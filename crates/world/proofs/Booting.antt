@@ -1,6 +1,6 @@
 -- The boot of replica 0 over a disk without a log.
 use Rattle.std.specs.Prelude.{if◌then◌else◌}
-use Rattle.std.proofs.Common.{◌≡◌, ◌∙◌, sym, ap, subst, refl, ℕ, ◌+◌, ◌≤◌, Bool, true, false, List, [], ◌∷◌, ◌++◌, length, map, flat_map, Option, Some, None, is_some, Result, Ok, arith, inl, inr, ◌⊎◌, ⊎_elim, suc}
+use Rattle.std.proofs.Common.{◌≡◌, ◌∙◌, sym, ap, subst, refl, ℕ, ◌+◌, ◌≤◌, Bool, true, false, List, [], ◌∷◌, ◌++◌, length, map, flat_map, Option, Some, None, is_some, Ok, arith, inl, inr, ◌⊎◌, ⊎_elim, suc}
 use Rattle.std.specs.Option.{ForSome, IsSome, IfSome}
 use Rattle.std.proofs.lemmas.Bool.{false≢true}
 use Rattle.std.specs.List.{list_any}
@@ -14,7 +14,7 @@ use Rattle.disk_model.specs.Disk.{Areas, Follows}
 use Rattle.log_store.specs.declared.kept.Kept.{Kept as Log}
 use Rattle.log_store.specs.Durable.{durable, StandFor}
 use Rattle.log_store.specs.Epochs.{later}
-use Rattle.log_store.specs.Fold.{Place, no_log}
+use Rattle.log_store.specs.Fold.{no_log}
 use Rattle.log_store.specs.Growth.{new_log}
 use Rattle.log_store.specs.Log.{commits_in}
 use Rattle.log_store.specs.Store.{KeepsOrBegins}
@@ -44,16 +44,13 @@ use Rattle.world.proofs.Later.{new_of, as_replica, replica_later, ruled_as}
 use Rattle.world.proofs.Faultless.{fault_first}
 use Rattle.world.proofs.BootLines.{mounted, boot_lines, boot_serves, boot_mount_faults, boot_start_faults, boot_barrier_faults}
 use Rattle.world.proofs.Readable.{an_image}
-use Rattle.world.proofs.Reopening.{AreSound, sound_all, sound_follows}
+use Rattle.world.proofs.Reopening.{AreSound, sound_all, sound_follows, same_log}
 use Rattle.world.proofs.Started.{nothing_going}
 
 abbrev pub first_start : StepEvent
 first_start = steps.Start first_epoch
 
 -- ---- the log that an opening begins
-
-same_log : (a b : Log) → ◌≡◌ {A = Result Log Place} (Ok a) (Ok b) → a ≡ b
-same_log a b e = cc
 
 pub log_is_new : (r : Open) (log : Log) (images now : Areas → Type 0) (seen : Option Areas) → StandFor no_log images → Follows (KeepsOrBegins 0) images now → IsSome seen → ForSome seen now → IsOpen r log now → log ≡ new_log 0
 log_is_new r log images now seen empty follows told shown o =

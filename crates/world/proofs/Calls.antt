@@ -11,7 +11,6 @@ use Rattle.rc_base.specs.Ids.{is_txn}
 use Rattle.coll_model.specs.declared.op.Op.{Op}
 use Rattle.coll_model.specs.Effect.{State, folded}
 use Rattle.disk_model.specs.Disk.{Areas}
-use Rattle.txn_table.specs.declared.committed.Committed.{Committed}
 use Rattle.log_store.specs.declared.kept.Kept.{Kept as Log}
 use Rattle.log_store.specs.Durable.{StandFor}
 use Rattle.log_store.specs.Log.{commits_in}
@@ -37,6 +36,7 @@ use Rattle.std.specs.Map.{remove_entry}
 use Rattle.std.specs.BTreeMap.{is_at}
 use Rattle.std.specs.Ordering.{nat_cmp}
 use Rattle.std.proofs.lemmas.Bool.Decides.{nat_tests}
+use Rattle.txn_front.proofs.Fronts.{told_ended, called_ended}
 use Rattle.log_store.specs.Growth.{after}
 use Rattle.replica.specs.Step.{placed, logged_op, CallFits, reply, is_active, logged, logged_by, logged_call, called, answered, noted, behind, going_in, committed_by, lengthened, epoch_in}
 use Rattle.txn_front.specs.Front.{Fronted, Going, going_of, told, IsOver, AreAlike}
@@ -51,9 +51,9 @@ use Rattle.world.proofs.Aborted.{Ends, aborted_serves}
 use Rattle.world.proofs.Asked.{IsInCollection, IsAsked, asked_serves, going_told, grants_then}
 use Rattle.world.proofs.Begin.{Begins, begin_serves, next, new_going}
 use Rattle.world.proofs.Changed.{ChangesAt, runs_alike}
-use Rattle.world.proofs.Ended.{ended_serves, ended_told}
+use Rattle.world.proofs.Ended.{ended_serves}
 use Rattle.world.proofs.FrontChanges.{changes_alike, begins_changes, ends_changes, asked_changes, op_then, last_then}
-use Rattle.world.proofs.Plain.{told_is, committed_open, lengthened_shown, lengthened_contents, lengthened_role, lengthened_epoch}
+use Rattle.world.proofs.Plain.{told_is, committed_open, lengthened_shown, lengthened_contents, lengthened_role, lengthened_epoch, one_commit}
 use Rattle.world.proofs.Faultless.{answer_shows, reply_answers}
 use Rattle.world.proofs.Later.{Continues, continues_standing}
 use Rattle.world.proofs.Logged.{fence_called, latest_low}
@@ -247,26 +247,18 @@ none_logs r call t on named none =
     ap (λ o. option_map_or (λ u. option_map_or (λ going. logged_call r.last u going call (reply r call)) (going_in r u) []) o []) named
     ∙ ap (λ o. option_map_or (λ going. logged_call r.last t going call (reply r call)) o []) (cond-true (is_active r.role) (going_of r.front t) None on ∙ none)
 
-none_called : (f : Fronted) (state : State) (call : Call) (t : TxnId) → txn_named call ≡ Some t → going_of f t ≡ None → front.called f state call ≡ f
-none_called f state call t named none =
-    ap (λ o. option_map_or (λ u. option_map_or (λ going. front.asked f state u going call) (going_of f u) f) o (front.begun f)) named
-    ∙ ap (λ o. option_map_or (λ going. front.asked f state t going call) o f) none
-
 -- the front without what goes on under the name
 abbrev ended_with : Fronted → TxnId → Fronted
 ended_with f u = record f { live = remove_entry (is_at (nat_cmp u.n)) f.live; grants = released f.grants u }
 
-abbrev one_commit : TxnId → Going → List Committed
-one_commit t g = record { txn = t; ops = g.ops } ∷ []
-
 none_answered : (r : Open) (call : Call) (t : TxnId) → txn_named call ≡ Some t → going_of r.front t ≡ None → answered zero call r ≡ r
 none_answered r Begin t named none = absurd (none-some t named)
-none_answered r (Make u name kind) t named none = ap (λ f. record r { front = f }) (none_called r.front r.contents (Make u name kind) t named none)
-none_answered r (Get u name key) t named none = ap (λ f. record r { front = f }) (none_called r.front r.contents (Get u name key) t named none)
-none_answered r (GetForUpdate u name key) t named none = ap (λ f. record r { front = f }) (none_called r.front r.contents (GetForUpdate u name key) t named none)
-none_answered r (Set u name key value) t named none = ap (λ f. record r { front = f }) (none_called r.front r.contents (Set u name key value) t named none)
-none_answered r (Add u name key value) t named none = ap (λ f. record r { front = f }) (none_called r.front r.contents (Add u name key value) t named none)
-none_answered r (Delete u name key) t named none = ap (λ f. record r { front = f }) (none_called r.front r.contents (Delete u name key) t named none)
+none_answered r (Make u name kind) t named none = ap (λ f. record r { front = f }) (called_ended r.front r.contents (Make u name kind) t named none)
+none_answered r (Get u name key) t named none = ap (λ f. record r { front = f }) (called_ended r.front r.contents (Get u name key) t named none)
+none_answered r (GetForUpdate u name key) t named none = ap (λ f. record r { front = f }) (called_ended r.front r.contents (GetForUpdate u name key) t named none)
+none_answered r (Set u name key value) t named none = ap (λ f. record r { front = f }) (called_ended r.front r.contents (Set u name key value) t named none)
+none_answered r (Add u name key value) t named none = ap (λ f. record r { front = f }) (called_ended r.front r.contents (Add u name key value) t named none)
+none_answered r (Delete u name key) t named none = ap (λ f. record r { front = f }) (called_ended r.front r.contents (Delete u name key) t named none)
 none_answered r (Commit u) t named none =
     let same : u ≡ t = same_Some u t named in
     ap (λ o. option_map_or (λ g. committed_open zero u g r) o r) (ap (going_of r.front) same ∙ none)
@@ -289,7 +281,7 @@ none_commits r (Abort u) t on named none = refl
 pub ended_done : (last number : ℕ) (r r' : Open) (call : Call) (t : TxnId) (before now : Areas → Type 0) (lines : List Observation) (m : Machine) (epoch : Epoch) (active : Bool) → last < number → r.role ≡ Primary epoch active → txn_named call ≡ Some t → going_of r.front t ≡ None → Serving last r before m → IsDone r r' call before now lines → IsServed number r' now call lines m
 ended_done last number r r' call t before now lines m epoch active later role named none s d =
     let on : is_active r.role ≡ true = primary_active r s.log epoch active role s.is_open.agrees in
-    let says_so : reply r call ≡ Some (plain (says.Ended t)) = active_reply r call on ∙ ended_told r.front r.contents call t named none in
+    let says_so : reply r call ≡ Some (plain (says.Ended t)) = active_reply r call on ∙ told_ended r.front r.contents call t named none in
     let is : called r call ≡ r = cond-true (is_active r.role) (answered (length (logged_by r call)) call r) r on ∙ (ap (λ bodies. answered (length bodies) call r) (none_logs r call t on named none) ∙ none_answered r call t named none) in
     let then : finished r (steps.Client call) ≡ r = (told_is r call (plain (says.Ended t)) says_so).keeps ∙ is in
     let alike : AreAlike r'.front r.front = subst (λ (x : Open). AreAlike r'.front x.front) then d.alike in

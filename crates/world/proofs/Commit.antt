@@ -3,11 +3,12 @@ use Rattle.std.proofs.Common.{◌≡◌, ◌∙◌, sym, ap, subst, ℕ, zero, s
 use Rattle.std.specs.Option.{option_map_or}
 use Rattle.std.specs.List.{list_any}
 use Rattle.std.specs.Map.{lookup}
-use Rattle.std.proofs.lemmas.Bool.{false≢true, false_from_ne_true, or_cases, cond-true}
+use Rattle.std.proofs.lemmas.Bool.{false≢true, false_from_ne_true, or_cases, cond-true, or_parts}
 use Rattle.std.proofs.lemmas.Grind.{flat_map-append}
 use Rattle.std.proofs.lemmas.List.Folds.{list_any-append}
 use Rattle.std.proofs.lemmas.List.Sums.{fold-append}
 use Rattle.std.proofs.lemmas.Option.{none-some, same_Some}
+use Rattle.std.proofs.Math.Bool.{or-false, or-true}
 use Rattle.rc_base.specs.declared.ids.TxnId.{TxnId}
 use Rattle.coll_model.specs.Effect.{State, effect, folded}
 use Rattle.script_text.specs.declared.event.Event.TheVariants.{Client}
@@ -20,7 +21,7 @@ use Rattle.order_machine.specs.Machine.{Machine, Txn, Role, is_pending, is_shown
 use Rattle.order_machine.specs.Answers.{answer, Replays}
 use Rattle.order_machine.specs.Rows.{Position, May, opened, asking, going_at, at_start, after}
 use Rattle.order_machine.specs.Legal.{IsWhole, moved}
-use Rattle.rc_base.proofs.SameIds.{is_txn-true, is_txn_same, is_epoch-true, is_epoch_same}
+use Rattle.rc_base.proofs.SameIds.{is_txn-true, is_txn_same, is_epoch-true, is_epoch_same, is_txn_equivalence}
 use Rattle.key_locks.specs.Grants.{Grant, released}
 use Rattle.order_machine.specs.Protected.{AreProtected}
 use Rattle.order_machine.proofs.ProtectedGrants.{AreExclusive-released}
@@ -30,7 +31,7 @@ use Rattle.world.specs.Course.{IsCourse}
 use Rattle.world.specs.World.{IsShutWith}
 use Rattle.world.specs.Standing.{Course, standing, serving, shut}
 use Rattle.world.proofs.Quiet.{holds_behind, never_there}
-use Rattle.world.proofs.Aborted.{Ends, other_way}
+use Rattle.world.proofs.Aborted.{Ends}
 use Rattle.world.proofs.Asked.{going_told}
 use Rattle.world.proofs.Booted.{running_unrefused}
 use Rattle.world.proofs.Changed.{at_own, at_other}
@@ -74,11 +75,7 @@ start_of s = at_start (running s.entries s.acknowledged ((s.t, asked_of s.x) ∷
 
 before_new : (t : TxnId) (entries : List Entry) (e : Entry) → holds entries t ≡ false → is_txn t e.txn ≡ true → before t (entries ++ e ∷ []) ≡ entries
 before_new t [] e h s = rw s refl
-before_new t (x ∷ xs) e h s = let o = neither (is_txn t x.txn) (holds xs t) h in rw o.0 (ap (λ ys. x ∷ ys) (before_new t xs e o.1 s))
-  where
-    neither : (a b : Bool) → (a || b) ≡ false → (a ≡ false) × (b ≡ false)
-    neither true b q = absurd (false≢true (sym q))
-    neither false b q = (refl, q)
+before_new t (x ∷ xs) e h s = let o = or_parts (is_txn t x.txn) (holds xs t) h in rw o.0 (ap (λ ys. x ∷ ys) (before_new t xs e o.1 s))
 
 -- ---- the lines
 
@@ -126,11 +123,7 @@ shown_there entries shown t g u all h =
     rw e h
 
 held_new : (entries : List Entry) (t : TxnId) (g : Going) → holds (with_entry entries t g) t ≡ true
-held_new entries t g = list_any-append (λ e. is_txn t e.txn) entries (entry_of t g ∷ []) ∙ rw (is_txn_same t) (or_true (holds entries t))
-  where
-    or_true : (b : Bool) → (b || true) ≡ true
-    or_true true = refl
-    or_true false = refl
+held_new entries t g = list_any-append (λ e. is_txn t e.txn) entries (entry_of t g ∷ []) ∙ rw (is_txn_same t) (or-true (holds entries t))
 
 held_more : (entries : List Entry) (t : TxnId) (g : Going) (u : TxnId) → holds entries u ≡ true → holds (with_entry entries t g) u ≡ true
 held_more entries t g u h = list_any-append (λ e. is_txn u e.txn) entries (entry_of t g ∷ []) ∙ rw h refl
@@ -236,7 +229,7 @@ each_done front new shown contents m h t g k c u y false other e =
       logged = λ f is. was.logged f (sym same ∙ is);
       protected = λ on.
           subst (λ state. AreProtected (released h.grants t) u state y.calls) (ap (folded (state_of h.entries)) k.ops ∙ state_more h.entries t g)
-          (AreProtected-released h.grants t u (folded (state_of h.entries) (ops_of k.txn)) y.calls (other_way u t other)
+          (AreProtected-released h.grants t u (folded (state_of h.entries) (ops_of k.txn)) y.calls (is_txn_equivalence.symm t u ∙ other)
           (AreProtected-behind_commit h.grants u t (state_of h.entries) y.calls k.txn.calls h.exclusive other (IsOrdered-folded [] (flat_map (λ e. e.ops) h.entries) IsOrdered-nil) theirs (was.protected on)));
     }
 
@@ -273,20 +266,16 @@ commit_runs front new shown contents m h t g k c = record {
     held_there u true same e = let w : u ≡ t = is_txn-true u t same in rw w (held_new h.entries t g)
     held_there u false other e = held_more h.entries t g u (h.held u e)
 
-    or_false : (b : Bool) → (b || false) ≡ true → b ≡ true
-    or_false true e = refl
-    or_false false e = e
-
     held_cases : (u : TxnId) → holds (with_entry h.entries t g) u ≡ true → (holds h.entries u ≡ true) ⊎ ((is_txn u t || false) ≡ true)
     held_cases u e = or_cases (holds h.entries u) (is_txn u t || false) (sym (list_any-append (λ f. is_txn u f.txn) h.entries (entry_of t g ∷ [])) ∙ e)
 
     within_there : (u : TxnId) → (holds h.entries u ≡ true) ⊎ ((is_txn u t || false) ≡ true) → epoch_le u.epoch h.course.latest ≡ true
     within_there u (inl e) = h.held_within u e
-    within_there u (inr e) = let w : u ≡ t = is_txn-true u t (or_false (is_txn u t) e) in subst (λ (v : TxnId). epoch_le v.epoch h.course.latest ≡ true) (sym w) (h.each t k.txn k.known).within
+    within_there u (inr e) = let w : u ≡ t = is_txn-true u t (sym (or-false (is_txn u t)) ∙ e) in subst (λ (v : TxnId). epoch_le v.epoch h.course.latest ≡ true) (sym w) (h.each t k.txn k.known).within
 
     begun_there : (u : TxnId) → (holds h.entries u ≡ true) ⊎ ((is_txn u t || false) ≡ true) → u.epoch ≡ h.course.latest → u.n ≤ front.begins
     begun_there u (inl e) here = h.held_begun u e here
-    begun_there u (inr e) here = let w : u ≡ t = is_txn-true u t (or_false (is_txn u t) e) in subst (λ (v : TxnId). v.epoch ≡ h.course.latest → v.n ≤ front.begins) (sym w) (h.each t k.txn k.known).begun here
+    begun_there u (inr e) here = let w : u ≡ t = is_txn-true u t (sym (or-false (is_txn u t)) ∙ e) in subst (λ (v : TxnId). v.epoch ≡ h.course.latest → v.n ≤ front.begins) (sym w) (h.each t k.txn k.known).begun here
 
 -- ---- the event
 

@@ -6,6 +6,7 @@ use Rattle.rc_base.specs.declared.ids.TxnId.{TxnId}
 use Rattle.rc_base.specs.Ids.{is_txn}
 use Rattle.coll_model.specs.declared.op.Op.{Op}
 use Rattle.std.specs.Map.{lookup}
+use Rattle.txn_front.proofs.Fronts.{told_ended}
 use Rattle.rc_base.proofs.SameIds.{is_txn_same}
 use Rattle.key_locks.specs.Grants.{released}
 use Rattle.disk_model.specs.Disk.{Areas, Each}
@@ -44,7 +45,6 @@ use Rattle.world.proofs.Askings.{past_asked, commit_follows}
 use Rattle.world.proofs.Asked.{IsInCollection, going_told}
 use Rattle.world.proofs.Begin.{next}
 use Rattle.world.proofs.Commit.{entry_of, with_entry, lines_of, commit_faults}
-use Rattle.world.proofs.Ended.{ended_told}
 use Rattle.world.proofs.FrontChanges.{ends_changes}
 use Rattle.world.proofs.Plain.{told_is, committed_open, lengthened_role}
 use Rattle.world.proofs.Calls.{primary_active, active_reply, longer, rests_reply, rests_logs, none_logs, collection_logs, collection_commits}
@@ -295,7 +295,7 @@ abort_cut t last number r g before now lines m later may on s is cut = by (g.las
 
 named_cut : (call : Call) (t : TxnId) → txn_named call ≡ Some t → GoingCut call t → (last number : ℕ) (r : Open) (before now : Areas → Type 0) (lines : List Observation) (m : Machine) → last < number → MayStep r (steps.Client call) → is_active r.role ≡ true → (s : Serving last r before m) → IsCutOff r (steps.Client call) s.log [] lines now → (o : Option Going) → going_of r.front t ≡ o → IsFaulted number now call (lines ++ says.Fault 0 ∷ []) m
 named_cut call t named going last number r before now lines m later may on s cut (Some g) is = going last number r g before now lines m later may on s is cut
-named_cut call t named going last number r before now lines m later may on s cut None none = absurd (silent_cut r call (plain (says.Ended t)) s.log lines now (active_reply r call on ∙ ended_told r.front r.contents call t named none) (none_logs r call t on named none) cut)
+named_cut call t named going last number r before now lines m later may on s cut None none = absurd (silent_cut r call (plain (says.Ended t)) s.log lines now (active_reply r call on ∙ told_ended r.front r.contents call t named none) (none_logs r call t on named none) cut)
 
 primary_cut : (last number : ℕ) (r : Open) (call : Call) (before now : Areas → Type 0) (lines : List Observation) (m : Machine) → last < number → MayStep r (steps.Client call) → is_active r.role ≡ true → (s : Serving last r before m) → IsCutOff r (steps.Client call) s.log [] lines now → IsFaulted number now call (lines ++ says.Fault 0 ∷ []) m
 primary_cut last number r Begin before now lines m later may on s cut = absurd (silent_cut r Begin (plain (says.Txn (next r.front))) s.log lines now (active_reply r Begin on) refl cut)

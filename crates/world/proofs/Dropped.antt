@@ -140,7 +140,7 @@ replica_dropped e (Some r) last images m s = role_dropped e r.role last r images
 
 -- ---- what holds of each such state
 
-holds_role : (role : Role) (last : ℕ) (r : Open) (images : Areas → Type 0) (m : Machine) → AsRole role last r images m → HoldsBehind m
+pub holds_role : (role : Role) (last : ℕ) (r : Open) (images : Areas → Type 0) (m : Machine) → AsRole role last r images m → HoldsBehind m
 holds_role Other last r images m s = subst HoldsBehind (sym s.rests.is) (holds_without_role s.entries s.rests.acknowledged (resting s.rests.course r.shown) s.rests.txns s.rests.course refl)
 holds_role (Primary epoch active) last r images m s = holds_behind r.front r.shown r.contents m s.runs
 

@@ -1,22 +1,23 @@
 -- A call at a booted world of a transaction that doesn't go on.
-use Rattle.std.proofs.Common.{◌≡◌, ◌∙◌, sym, ap, subst, ℕ, ◌+◌, [], ◌∷◌, Bool, true, false, cond, Option, Some, None, is_some, refl}
+use Rattle.std.proofs.Common.{◌≡◌, ◌∙◌, sym, ap, subst, ℕ, [], ◌∷◌, Bool, true, false, cond, Option, Some, None, is_some, refl}
 use Rattle.std.specs.Option.{option_map_or}
 use Rattle.std.specs.Map.{lookup}
 use Rattle.std.proofs.lemmas.Bool.{false≢true, cond-false}
 use Rattle.std.proofs.lemmas.Option.{same_Some, none-some}
+use Rattle.txn_front.proofs.Fronts.{told_ended}
 use Rattle.rc_base.specs.declared.ids.TxnId.{TxnId}
 use Rattle.rc_base.specs.Ids.{is_txn}
 use Rattle.rc_base.proofs.SameIds.{is_txn-true}
-use Rattle.coll_model.specs.Effect.{State, folded}
+use Rattle.coll_model.specs.Effect.{State}
 use Rattle.script_text.specs.declared.event.Event.TheVariants.{Client}
 use Rattle.script_text.specs.declared.event.Call.{Call}
 use Rattle.script_text.specs.declared.event.Call.TheVariants.{Begin, Make, Get, GetForUpdate, Set, Add, Delete, Commit, Abort}
 use Rattle.order_machine.specs.declared.observation.Observation.TheVariants as says
 use Rattle.order_machine.specs.Machine.{Machine, Txn, Noted, put_txn}
-use Rattle.order_machine.specs.Answers.{plain, noted, txn_named, live_reply}
+use Rattle.order_machine.specs.Answers.{plain, noted, txn_named}
 use Rattle.order_machine.specs.Rows.{asking, going_at}
 use Rattle.order_machine.specs.Legal.{IsWhole, moved}
-use Rattle.txn_front.specs.Front.{Fronted, Going, going_of, told, txn_at}
+use Rattle.txn_front.specs.Front.{Fronted, Going, going_of, told}
 use Rattle.world.specs.Running.{Runs, RunsWith, IsKept}
 use Rattle.world.proofs.Answer.{answer_serves}
 use Rattle.world.proofs.Booted.{running_unrefused}
@@ -95,12 +96,6 @@ ended_asking m (Delete u name key) t named gone = by_none _ m (going_at m 0 u) (
 ended_asking m (Commit u) t named gone = by_none _ m (going_at m 0 u) (ap (going_at m 0) (same_Some u t named) ∙ gone)
 ended_asking m (Abort u) t named gone = by_none _ m (going_at m 0 u) (ap (going_at m 0) (same_Some u t named) ∙ gone)
 
--- and it is told so
-pub ended_told : (front : Fronted) (contents : State) (call : Call) (t : TxnId) → txn_named call ≡ Some t → going_of front t ≡ None → told front contents call ≡ Some (plain (says.Ended t))
-ended_told front contents call t named none =
-    ap (λ o. option_map_or (λ u. option_map_or (λ going. live_reply front.grants (folded contents going.ops) u call) (going_of front u) (Some (plain (says.Ended u)))) o (Some (plain (says.Txn (txn_at front (front.begins + 1)))))) named
-    ∙ ap (λ o. option_map_or (λ going. live_reply front.grants (folded contents going.ops) t call) o (Some (plain (says.Ended t)))) none
-
 pub ended_serves : (front : Fronted) (shown : ℕ) (contents : State) (m : Machine) (call : Call) (t : TxnId) → txn_named call ≡ Some t → (h : Runs front shown contents m) → going_of front t ≡ None →
     IsWhole m (Client 0 call) (says.Ended t ∷ []) × RunsWith h.entries h.course front shown contents (moved m (Client 0 call) (says.Ended t ∷ []))
 ended_serves front shown contents m call t named h none =
@@ -109,5 +104,5 @@ ended_serves front shown contents m call t named h none =
     let R : Option TxnId → Type 0 = λ o. RunsWith h.entries h.course front shown contents (option_map_or (λ u. noted n u (ended_call call t)) o n) in
     let then = subst R (sym named) (noted_runs front shown contents m t (ended_call call t) h none (lookup (is_txn t) h.txns) refl) in
     let P : Machine → Type 0 = λ at. IsWhole at (Client 0 call) (says.Ended t ∷ []) × RunsWith h.entries h.course front shown contents (moved at (Client 0 call) (says.Ended t ∷ [])) in
-    let says_so : told front contents call ≡ Some (plain (says.Ended t)) = ended_told front contents call t named none in
+    let says_so : told front contents call ≡ Some (plain (says.Ended t)) = told_ended front contents call t named none in
     subst P (sym h.is) (answer_serves n n 0 call (says.Ended t) None (RunsWith h.entries h.course front shown contents) (running_unrefused front shown contents m h call) (ended_asking n call t named gone) (answer_told front shown contents m h call ∙ says_so) refl (holds_behind _ _ _ _ then.0) then)

@@ -12,14 +12,14 @@ use Rattle.std.specs.Ordering.{nat_cmp}
 use Rattle.std.specs.Prelude.{option_map}
 use Rattle.std.specs.Option.{option_map_or}
 use Rattle.rc_base.specs.Ids.{is_txn}
-use Rattle.rc_base.proofs.SameIds.{is_txn-true}
+use Rattle.rc_base.proofs.SameIds.{is_txn-true, is_txn_equivalence}
 use Rattle.txn_front.proofs.Fronts.{going_of-begun, going_of-begun_other, going_of-logged, going_of-logged_other, going_of-ended, going_of-ended_other, going_of-called, going_of-called_other, told_live, called_live}
 use Rattle.script_text.specs.declared.event.Call.{Call}
 use Rattle.order_machine.specs.Answers.{txn_named, live_reply}
 use Rattle.txn_front.specs.Index as index
 use Rattle.txn_front.specs.Front.{Fronted, Going, txn_at, going_of, AreAlike, IsOver, told, with_going, begun, called, operated, ended, logged}
 use Rattle.replica.specs.Step.{noted}
-use Rattle.world.proofs.Aborted.{Ends, other_way}
+use Rattle.world.proofs.Aborted.{Ends}
 use Rattle.world.proofs.Asked.{grants_then}
 use Rattle.world.proofs.Begin.{Begins, new_going}
 use Rattle.world.proofs.Changed.{ChangesAt}
@@ -36,7 +36,7 @@ changes_alike old new other begins t then grants c a = record {
 -- by cases: at the transaction, and elsewhere
 split : (new : TxnId → Option Going) (old : Fronted) (t : TxnId) (then : Option Going) → new t ≡ then → ((u : TxnId) → is_txn t u ≡ false → new u ≡ going_of old u) → (u : TxnId) (b : Bool) → is_txn u t ≡ b → new u ≡ cond b then (going_of old u)
 split new old t then own others u true same = ap new (is_txn-true u t same) ∙ own
-split new old t then own others u false apart = others u (other_way u t apart)
+split new old t then own others u false apart = others u (is_txn_equivalence.symm t u ∙ apart)
 
 pub begins_changes : (f : Fronted) (state : State) → IsOver f state → Begins f (begun f)
 begins_changes f state over = record {

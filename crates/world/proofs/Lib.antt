@@ -19,7 +19,6 @@ pub mod CommitCalls
 pub mod CutOff
 pub mod Dropped
 pub mod Ended
-pub mod Epochs
 pub mod FaultLines
 pub mod Faultless
 pub mod FrontChanges

@@ -12,7 +12,7 @@ use Rattle.replica.specs.Step.{lengthened, answered, called, logged_by, is_activ
 use Rattle.txn_front.specs.Front.{Going, going_of}
 use Rattle.world.specs.Course.{IsCourse, IsFence, IsLogged, is_appointed}
 use Rattle.world.specs.Standing.{Course}
-use Rattle.world.proofs.Epochs.{epoch_le_same}
+use Rattle.replica.proofs.EpochOrder.{epoch_le_refl}
 use Rattle.world.proofs.Plain.{committed_open, lengthened_epoch}
 
 pub fence_later : (course : Course) (f e : Epoch) → IsFence course f → epoch_le e course.latest ≡ true → IsFence course (later f e)
@@ -72,7 +72,7 @@ epoch_called r call = by (is_active r.role)
 
 -- an epoch that is the latest isn't above it
 pub latest_low : (course : Course) (e : Epoch) → e ≡ course.latest → epoch_le e course.latest ≡ true
-latest_low course e is = subst (λ f. epoch_le f course.latest ≡ true) (sym is) (epoch_le_same course.latest)
+latest_low course e is = subst (λ f. epoch_le f course.latest ≡ true) (sym is) (epoch_le_refl course.latest)
 
 pub logged_fence : (course : Course) (x : Open) (log : Log) → AgreesWith x log → IsFence course x.fence → IsFence course log.fence
 logged_fence course x log agrees fence = subst (IsFence course) (sym agrees.fence) fence

@@ -20,20 +20,16 @@ use Rattle.replica.specs.Step.{reply, is_active, quiet, outcome, logged_by, call
 use Rattle.txn_front.specs.Front.{Going, going_of, ended}
 use Rattle.world.specs.Steps.{told, told_by, is_due, finished, log_once, log_twice, log_behind}
 
-not_below : (n : ℕ) → nat_lt n n ≡ false
-not_below n = by_bool (nat_lt n n) refl
-  where
-    by_bool : (b : Bool) → nat_lt n n ≡ b → nat_lt n n ≡ false
-    by_bool false e = e
-    by_bool true e = absurd (grind (arith, nat_tests, e))
+pub not_below : (n : ℕ) → nat_lt n n ≡ false
+not_below n = grind (arith, nat_tests)
 
-off : (b : Bool) → (b && not b) ≡ false
-off true = refl
-off false = refl
+pub not_newly : (b : Bool) → (b && not b) ≡ false
+not_newly true = refl
+not_newly false = refl
 
 -- the line of a step that shows nothing more
 pub quiet_lines : (r : Open) (o : Option Observation) → told r.id r.shown (is_active r.role) (quiet r o) ≡ cons_option o []
-quiet_lines r o = rw (not_below r.shown, off (is_active r.role)) refl
+quiet_lines r o = rw (not_below r.shown, not_newly (is_active r.role)) refl
 
 -- What a call tells that is answered, what the replica keeps then, and its log.
 pub record IsTold (r : Open) (call : Call) (given : Reply) : Type 0 where
@@ -74,7 +70,7 @@ above n = by_bool (nat_lt n (n + 1)) refl
     by_bool true e = e
     by_bool false e = absurd (grind (arith, nat_tests, e))
 
-abbrev one_commit : TxnId → Going → List Committed
+abbrev pub one_commit : TxnId → Going → List Committed
 one_commit t g = record { txn = t; ops = g.ops } ∷ []
 
 pub committed_is : (r : Open) (t : TxnId) (g : Going) → is_active r.role ≡ true → going_of r.front t ≡ Some g → reply r (Commit t) ≡ None → IsCommitted r t g

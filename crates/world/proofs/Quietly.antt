@@ -1,6 +1,8 @@
 -- Arming and inspecting an open replica.
 use Rattle.std.proofs.Common.{◌≡◌, ◌∙◌, sym, ap, subst, refl, ℕ, ◌-◌, ◌≤◌, Bool, true, List, [], ◌∷◌, ◌++◌, length, take, map, flat_map, Some, Ok, arith, append-nil}
-use Rattle.std.proofs.lemmas.List.{take-append-le, take-map}
+use Rattle.std.proofs.lemmas.List.{take-append-le, take-map, take_all}
+use Rattle.world.proofs.Sound.{ops_of_entries}
+use Rattle.world.proofs.Dropped.{holds_role}
 use Rattle.coll_model.specs.Effect.{folded}
 use Rattle.disk_model.specs.Disk.{Areas, Within}
 use Rattle.txn_table.specs.declared.committed.Committed.{Committed}
@@ -12,7 +14,6 @@ use Rattle.order_machine.specs.declared.observation.Observation.TheVariants as s
 use Rattle.order_machine.specs.Order.{Entry, state_at}
 use Rattle.order_machine.specs.Contents.{rows_of}
 use Rattle.order_machine.specs.Machine.{Machine, replica, order_of}
-use Rattle.order_machine.specs.Rows.{HoldsBehind}
 use Rattle.order_machine.specs.Legal.{IsWhole, moved}
 use Rattle.replica.specs.declared.role.Role.{Role}
 use Rattle.replica.specs.declared.role.Role.TheVariants.{Other, Primary}
@@ -21,16 +22,9 @@ use Rattle.replica.specs.Open.{Open, AgreesWith, HasRole, commits_to}
 use Rattle.world.specs.Disks.{as_commit}
 use Rattle.world.specs.Kept.{Kept, has_booted}
 use Rattle.world.specs.World.{StandsFor, AsRole, Serves}
-use Rattle.world.specs.Standing.{resting}
 use Rattle.world.proofs.Asides.{arm_serves, inspect_serves, inspection}
 use Rattle.world.proofs.Later.{open_of, booted_stands, up_role, stands_later, stands_within, still_within}
-use Rattle.world.proofs.Quiet.{holds_behind}
 use Rattle.world.proofs.Still.{stands_still}
-use Rattle.world.proofs.WithoutRole.{holds_without_role}
-
-holds_role : (role : Role) (last : ℕ) (r : Open) (images : Areas → Type 0) (m : Machine) → AsRole role last r images m → HoldsBehind m
-holds_role Other last r images m s = subst HoldsBehind (sym s.rests.is) (holds_without_role s.entries s.rests.acknowledged (resting s.rests.course r.shown) s.rests.txns s.rests.course refl)
-holds_role (Primary epoch active) last r images m s = holds_behind r.front r.shown r.contents m s.runs
 
 -- ---- arm
 
@@ -50,16 +44,8 @@ contents_at : (entries : List Entry) (shown hidden : List Committed) (n : ℕ) �
 contents_at entries shown hidden n e count =
     let z : n - 0 ≡ length shown = omega (arith, count) in
     let fits : length shown ≤ length shown = omega arith in
-    let these : map as_commit (take (n - 0) entries) ≡ shown = ap (λ k. map as_commit (take k entries)) z ∙ (sym (take-map as_commit (length shown) entries) ∙ (ap (take (length shown)) (sym e) ∙ (take-append-le (length shown) shown hidden fits ∙ take_all shown))) in
+    let these : map as_commit (take (n - 0) entries) ≡ shown = ap (λ k. map as_commit (take k entries)) z ∙ (sym (take-map as_commit (length shown) entries) ∙ (ap (take (length shown)) (sym e) ∙ (take-append-le (length shown) shown hidden fits ∙ take_all (length shown) shown fits))) in
     ap (folded []) (ap (λ (cs : List Committed). flat_map (λ c. c.ops) cs) (sym these) ∙ ops_of_entries (take (n - 0) entries))
-  where
-    take_all : (cs : List Committed) → take (length cs) cs ≡ cs
-    take_all [] = refl
-    take_all (c ∷ cs) = ap (λ rest. c ∷ rest) (take_all cs)
-
-    ops_of_entries : (es : List Entry) → flat_map (λ c. c.ops) (map as_commit es) ≡ flat_map (λ e. e.ops) es
-    ops_of_entries [] = refl
-    ops_of_entries (e ∷ es) = ap (λ rest. e.ops ++ rest) (ops_of_entries es)
 
 -- a primary shows all that its log commits
 pub shown_by_primary : (r : Open) (log : Log) (epoch : _) (active : Bool) → r.role ≡ Primary epoch active → AgreesWith r log → commits_in log.records ≡ commits_to r.stable.0 log.records

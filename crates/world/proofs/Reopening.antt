@@ -110,6 +110,10 @@ crash_does k new images now seen pick lines booted rising new_booted rule order 
 
 -- ---- reboot
 
+-- two logs that one disk holds are the same
+pub same_log : (a b : Log) → ◌≡◌ {A = Result Log Place} (Ok a) (Ok b) → a ≡ b
+same_log a b e = cc
+
 -- what an opening leaves is as sound
 pub sound_follows : (entries : List Entry) (txns : List (TxnId × Txn)) (course : Course) (last : ℕ) (images now : Areas → Type 0) → Follows (KeepsOrBegins 0) images now → AreSound entries txns course last images → AreSound entries txns course last now
 sound_follows entries txns course last images now follows sound c is =
@@ -120,9 +124,6 @@ sound_follows entries txns course last images now follows sound c is =
     (λ begun. (new_log 0, begun.1, as_empty (same_log l.0 no_log (sym l.1 ∙ begun.0)) l.2))
     from.2.0
   where
-    same_log : (a b : Log) → ◌≡◌ {A = Result Log Place} (Ok a) (Ok b) → a ≡ b
-    same_log a b e = cc
-
     as_empty : {log : Log} → log ≡ no_log → IsSound entries txns course last log → IsSound entries txns course last (new_log 0)
     as_empty e s = let n = subst (IsSound entries txns course last) e s in record { more = n.more; holds = n.holds; follow = n.follow; hidden = n.hidden; shows = n.shows; fence = n.fence; logged = n.logged; short = n.short }
 
@@ -143,9 +144,6 @@ sound_of_open : (entries : List Entry) (txns : List (TxnId × Txn)) (course : Co
 sound_of_open entries txns course last r log now c is o sound =
     let l = sound c is in
     subst (IsSound entries txns course last) (same_log l.0 log (sym l.1 ∙ o.stands c is)) l.2
-  where
-    same_log : (a b : Log) → ◌≡◌ {A = Result Log Place} (Ok a) (Ok b) → a ≡ b
-    same_log a b e = cc
 
 -- the lines and the state behind them
 abbrev Opens : Machine → ℕ → Open → (Areas → Type 0) → Type 0

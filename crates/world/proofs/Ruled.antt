@@ -15,7 +15,7 @@ use Rattle.order_machine.specs.Rows.{is_above_all, noting_active, dropping}
 use Rattle.world.specs.Course.{IsNoted, AreNoted}
 use Rattle.world.specs.Kept.{Kept}
 use Rattle.world.specs.World.{IsRuled}
-use Rattle.world.proofs.Epochs.{epoch_lt_not}
+use Rattle.replica.proofs.EpochOrder.{epoch_lt_not}
 
 -- ---- the parts of the rule
 

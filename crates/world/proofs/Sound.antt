@@ -1,5 +1,5 @@
 -- What the logs of a disk hold of the order.
-use Rattle.std.proofs.Common.{◌≡◌, ◌∙◌, sym, ap, subst, ℕ, ◌+◌, ◌-◌, ◌*◌, ◌≤◌, Bool, true, false, cond, List, [], ◌∷◌, ◌++◌, length, map, take, Ok, arith, append-nil, length-append, ◌==◌}
+use Rattle.std.proofs.Common.{◌≡◌, ◌∙◌, sym, ap, subst, ℕ, ◌+◌, ◌-◌, ◌*◌, ◌≤◌, Bool, true, false, cond, List, [], ◌∷◌, ◌++◌, length, map, take, Ok, arith, append-nil, length-append, ◌==◌, flat_map, refl}
 use Rattle.std.specs.List.{list_any}
 use Rattle.std.proofs.lemmas.List.{take-append-le, take-map, length-map}
 use Rattle.rc_base.specs.declared.ids.TxnId.{TxnId}
@@ -30,6 +30,12 @@ acknowledged_few acknowledged (e ∷ entries) =
     let rest = acknowledged_few acknowledged entries in
     let more = one_more (acknowledged_to acknowledged entries == 0) (list_any (is_txn e.txn) acknowledged) (acknowledged_to acknowledged entries) (length entries) rest in
     omega (arith, more)
+
+-- ---- entries as commits
+
+pub ops_of_entries : (entries : List Entry) → flat_map (λ c. c.ops) (map as_commit entries) ≡ flat_map (λ e. e.ops) entries
+ops_of_entries [] = refl
+ops_of_entries (e ∷ entries) = ap (λ rest. e.ops ++ rest) (ops_of_entries entries)
 
 -- ---- a sound log holds the order
 

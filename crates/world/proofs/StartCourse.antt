@@ -1,34 +1,26 @@
 -- What holds of the appointments once replica 0 is appointed to an epoch above all others.
-use Rattle.std.proofs.Common.{◌≡◌, ◌∙◌, sym, ap, subst, refl, List, [], ◌∷◌, ◌++◌, Bool, true, false, cond, ◌||◌, inl, inr, ⊎_elim}
+use Rattle.std.proofs.Common.{◌≡◌, ◌∙◌, ap, refl, List, [], ◌∷◌, ◌++◌, Bool, true, false, cond, ◌||◌, inl, inr}
 use Rattle.std.specs.List.{list_any, list_all, AllByRecursion}
-use Rattle.std.proofs.lemmas.Bool.{false≢true, and_parts, or_cases}
 use Rattle.std.proofs.lemmas.List.Elements.{All-push, All-from_recursion, recursion_from_All}
 use Rattle.std.proofs.lemmas.List.Folds.{list_any-append}
+use Rattle.std.proofs.Math.Bool.{or-true}
+use Rattle.world.proofs.Surveys.{below_all}
 use Rattle.rc_base.specs.declared.ids.Epoch.{Epoch}
 use Rattle.rc_base.specs.Ids.{is_epoch, epoch_lt, epoch_le}
-use Rattle.rc_base.proofs.SameIds.{is_epoch-true, is_epoch_same}
+use Rattle.rc_base.proofs.SameIds.{is_epoch_same}
 use Rattle.log_store.specs.declared.kept.Kept.{Kept as Log}
 use Rattle.order_machine.specs.Machine.{Appointment}
 use Rattle.order_machine.specs.Rows.{noting_active}
 use Rattle.world.specs.Course.{IsOurs, IsCourse, IsFence, IsLogged, is_appointed}
 use Rattle.world.specs.Standing.{Course}
-use Rattle.world.proofs.Epochs.{epoch_le_same, epoch_le_lt, epoch_lt_le}
+use Rattle.replica.proofs.EpochOrder.{epoch_le_refl, epoch_le_lt, epoch_lt_le}
 use Rattle.world.proofs.StartLines.{appointment_to, appointed_course, active_course}
 
 -- ---- what is below the epoch
 
-pub below_each : (e f : Epoch) (xs : List Appointment) → list_all (λ a. epoch_lt a.epoch e) xs ≡ true → list_any (λ a. is_epoch f a.epoch) xs ≡ true → epoch_lt f e ≡ true
-below_each e f [] all some = absurd (false≢true some)
-below_each e f (a ∷ xs) all some =
-    let parts = and_parts (epoch_lt a.epoch e) (list_all (λ b. epoch_lt b.epoch e) xs) all in
-    ⊎_elim
-    (λ (here : is_epoch f a.epoch ≡ true). subst (λ (g : Epoch). epoch_lt g e ≡ true) (sym (is_epoch-true f a.epoch here)) parts.0)
-    (λ (behind : list_any (λ b. is_epoch f b.epoch) xs ≡ true). below_each e f xs parts.1 behind)
-    (or_cases (is_epoch f a.epoch) (list_any (λ b. is_epoch f b.epoch) xs) some)
-
 -- the latest epoch is below one that is above each appointed
 pub latest_below : (course : Course) (e : Epoch) → IsCourse course → list_all (λ a. epoch_lt a.epoch e) (course.first ∷ course.later) ≡ true → epoch_lt course.latest e ≡ true
-latest_below course e ruled above = below_each e course.latest (course.first ∷ course.later) above ruled.latest
+latest_below course e ruled above = below_all e course.latest (course.first ∷ course.later) above ruled.latest
 
 pub le_below : (f g e : Epoch) → epoch_le f g ≡ true → epoch_lt g e ≡ true → epoch_le f e ≡ true
 le_below f g e low up = epoch_lt_le f e (epoch_le_lt f g e low up)
@@ -38,12 +30,8 @@ le_below f g e low up = epoch_lt_le f e (epoch_le_lt f g e low up)
 appointed_more : (f : Epoch) (xs ys : List Appointment) → list_any (λ a. is_epoch f a.epoch) xs ≡ true → list_any (λ a. is_epoch f a.epoch) (xs ++ ys) ≡ true
 appointed_more f xs ys h = list_any-append (λ a. is_epoch f a.epoch) xs ys ∙ rw h refl
 
-or_true : (b : Bool) → (b || true) ≡ true
-or_true true = refl
-or_true false = refl
-
 appointed_last : (e : Epoch) (xs : List Appointment) → list_any (λ a. is_epoch e a.epoch) (xs ++ appointment_to e ∷ []) ≡ true
-appointed_last e xs = list_any-append (λ a. is_epoch e a.epoch) xs (appointment_to e ∷ []) ∙ rw (is_epoch_same e) (or_true (list_any (λ a. is_epoch e a.epoch) xs))
+appointed_last e xs = list_any-append (λ a. is_epoch e a.epoch) xs (appointment_to e ∷ []) ∙ rw (is_epoch_same e) (or-true (list_any (λ a. is_epoch e a.epoch) xs))
 
 noted_epoch : (f : Epoch) (b : Bool) (a : Appointment) → is_epoch f (cond b (record a { was_active = true }) a).epoch ≡ is_epoch f a.epoch
 noted_epoch f true a = refl
@@ -71,7 +59,7 @@ pub course_appointed : (course : Course) (e : Epoch) → IsCourse course → epo
 course_appointed course e ruled below = record {
   each = All-push (IsOurs e) (course.first ∷ course.later) (appointment_to e)
       (λ k d here. let o = ruled.each k d here in record { primary = o.primary; current = o.current; within = le_below _ course.latest e o.within below })
-      (record { primary = refl; current = refl; within = epoch_le_same e });
+      (record { primary = refl; current = refl; within = epoch_le_refl e });
   latest = appointed_now course e;
 }
 

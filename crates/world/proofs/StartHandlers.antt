@@ -1,9 +1,10 @@
 -- What the handler of a lawful appointment promises, by what the start of the epoch did.
-use Rattle.std.proofs.Common.{◌≡◌, ◌∙◌, sym, ap, subst, refl, ℕ, suc, ◌*◌, ◌≤◌, ◌<◌, max, Bool, true, cond, List, [], ◌∷◌, ◌++◌, Option, Some, None, is_some, Result, Ok, Err, IfOk, OnOk, OnErr, arith, append-nil, inl, inr, ◌⊎◌, rules}
+use Rattle.std.proofs.Common.{◌≡◌, ◌∙◌, sym, ap, subst, refl, ℕ, suc, ◌*◌, ◌≤◌, ◌<◌, max, Bool, true, cond, List, [], ◌∷◌, ◌++◌, Option, Some, None, is_some, Result, Ok, Err, IfOk, OnOk, OnErr, append-nil, inl, inr, ◌⊎◌, rules}
 use Rattle.std.specs.Prelude.{if◌then◌else◌}
 use Rattle.std.specs.List.{list_any}
 use Rattle.std.specs.Option.{option_map}
 use Rattle.std.proofs.lemmas.Option.{same_Some}
+use Rattle.world.proofs.Answered.{no_memory}
 use Rattle.rc_base.specs.Counts.{Rose}
 use Rattle.rc_base.specs.Members.{AreMembers}
 use Rattle.rc_base.specs.declared.ids.Epoch.{Epoch}
@@ -28,7 +29,7 @@ use Rattle.world.specs.Steps.{finished, told_start, log_once, log_behind, HoldsS
 use Rattle.world.specs.World.{StandsFor, AsReplica, IsOpen, IsAppointed, Serves, StillHolds}
 use Rattle.world.proofs.Appointing.{all_lines}
 use Rattle.world.proofs.Faultless.{rose_none, rose_one, fault_first}
-use Rattle.world.proofs.Later.{ruled_of, replica_of, booted_stands, up_role}
+use Rattle.world.proofs.Later.{ruled_of, replica_of, booted_stands, up_role, max_none}
 use Rattle.world.proofs.Ruled.{appointment_same}
 use Rattle.world.proofs.StartLogs.{start}
 use Rattle.world.proofs.StartWorld.{MayAppoint, active_all, faultless_all, start_does, start_fails_behind, start_fails_first, start_short, start_room}
@@ -84,9 +85,6 @@ ok_serves before old new images now number r x e lines a is rising kept stands h
       replica = replica;
     })
 
-max_zero : (n : ℕ) → max n 0 ≡ n
-max_zero n = omega arith
-
 -- the lines before a fault: none, or all
 abbrev pub IsCutAt : ℕ → Open → Epoch → List Observation → (Areas → Type 0) → (Areas → Type 0) → Type 0
 IsCutAt order r e lines images now = ((lines ≡ []) × ((log : Log) → IsOpen r log images → StandForOneOf log (log_once r (start e) log) now)) ⊎ (lines ≡ all_lines order r)
@@ -105,7 +103,7 @@ cut_serves before old new images now number r e lines a is rising holds (inl fir
     (record {
       last = last;
       rule = rule ∙ (ap (λ (ls : List Observation). noted e ls old.rule) first.0 ∙ ap (λ (k : Kept). k.rule) a.now_is);
-      order = order ∙ (ap (λ (ls : List Observation). max old.order (most_shown ls)) first.0 ∙ (max_zero old.order ∙ same));
+      order = order ∙ (ap (λ (ls : List Observation). max old.order (most_shown ls)) first.0 ∙ (max_none old.order ∙ same));
       replica = replica;
     })
 cut_serves before old new images now number r e lines a is rising holds (inr told) last rule order replica =
@@ -125,14 +123,9 @@ short_serves before old images now r e a is holds = start_short before images no
 
 -- ---- by the result
 
-err_short : (old new : Kept) (before now : Areas → Type 0) (event : Event) (e : WorldError) → ((m : Machine) → StandsFor old before m → StillHolds m now) → ◌≡◌ {A = Result (List Observation) WorldError} (Err e) (Err errors.NoMemory) → Serves old new before now event (Err e)
-err_short old new before now event e still is =
-    let none : e ≡ errors.NoMemory = cc in
-    subst (λ x. Serves old new before now event (Err x)) (sym none) still
-
 pub result_serves : (old new kept_so : Kept) (before now : Areas → Type 0) (event : Event) (given : List Observation) (result : Result (List Observation) WorldError) → IfOk result (λ lines. lines ≡ given) → OnOk result (new ≡ kept_so) → OnErr result (result ≡ Err errors.NoMemory) → ((m : Machine) → StandsFor old before m → StillHolds m now) → Serves old kept_so before now event (Ok given) → Serves old new before now event result
 result_serves old new kept_so before now event given (Ok lines) told kept memory still serves = subst (λ k. Serves old k before now event (Ok lines)) (sym kept) (subst (λ ls. Serves old kept_so before now event (Ok ls)) (sym told) serves)
-result_serves old new kept_so before now event given (Err e) told kept memory still serves = err_short old new before now event e still memory
+result_serves old new kept_so before now event given (Err e) told kept memory still serves = no_memory old new before now event e still memory
 
 -- ---- faults
 

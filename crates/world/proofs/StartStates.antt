@@ -24,7 +24,7 @@ use Rattle.world.specs.Steps.{finished, log_once, log_twice, log_behind, HoldsSo
 use Rattle.world.specs.World.{Serving, Closed, AsReplica, IsOpen, IsSound, StillHolds}
 use Rattle.world.proofs.Appointing.{Appoints, course_of, course_then, course_now, entries_now, below, may_start, all_commits, runs_there, all_lines, appoint_serves, appoint_faults_behind, appoint_faults_first}
 use Rattle.world.proofs.Changed.{runs_alike}
-use Rattle.world.proofs.Epochs.{epoch_le_same}
+use Rattle.replica.proofs.EpochOrder.{epoch_le_refl}
 use Rattle.world.proofs.Past.{past_ended, follow_ended}
 use Rattle.world.proofs.Sound.{BeginsWith, begins_still, sound_whole}
 use Rattle.world.proofs.StartCourse.{course_appointed, course_active, fence_appointed, fence_active, logged_appointed, logged_active, appointed_now}
@@ -69,7 +69,7 @@ fence_was last r before m e h = fence_appointed (course_of h) e h.rests.log.fenc
 
 -- and those of the epoch
 fence_here : (course : Course) (e : Epoch) → IsFence (appointed_course course e) e
-fence_here course e = inl (epoch_le_same e)
+fence_here course e = inl (epoch_le_refl e)
 
 logged_here : (course : Course) (e : Epoch) (log : Log) → last_epoch log.records ≡ e → IsLogged (appointed_course course e) log
 logged_here course e log is = inl (subst (λ (f : Epoch). is_appointed (appointed_course course e) f ≡ true) (sym is) (appointed_now course e))

@@ -4,6 +4,7 @@ use Rattle.std.specs.Map.{lookup}
 use Rattle.std.proofs.lemmas.Bool.{false≢true, or_cases}
 use Rattle.std.proofs.lemmas.List.Folds.{list_any-append}
 use Rattle.std.proofs.lemmas.Option.{none-some}
+use Rattle.std.proofs.Math.Bool.{or-false}
 use Rattle.rc_base.specs.declared.ids.Epoch.{Epoch}
 use Rattle.rc_base.specs.declared.ids.TxnId.{TxnId}
 use Rattle.rc_base.specs.Ids.{is_txn, is_epoch, epoch_lt, epoch_le}
@@ -17,7 +18,7 @@ use Rattle.txn_front.specs.Front.{Going, nothing, going_of}
 use Rattle.world.specs.Course.{ArePast, MayFollow}
 use Rattle.world.specs.Running.{running, state_of, RunsWith, IsKept}
 use Rattle.world.specs.Standing.{Course}
-use Rattle.world.proofs.Epochs.{epoch_le_lt, epoch_lt_apart}
+use Rattle.replica.proofs.EpochOrder.{epoch_le_lt, epoch_lt_apart}
 use Rattle.world.proofs.StartCourse.{le_below}
 use Rattle.world.proofs.StartLines.{appointed_course, active_course, as_entry, with_more, more_held}
 
@@ -35,12 +36,8 @@ held_within_more : (course : Course) (entries : List Entry) (acknowledged : List
 held_within_more course entries acknowledged txns [] past follow t h = past.held_within t h
 held_within_more course entries acknowledged txns (c ∷ []) past follow t h = ⊎_elim
     (λ (before : holds entries t ≡ true). past.held_within t before)
-    (λ (last : (is_txn t c.txn || false) ≡ true). subst (λ (u : TxnId). epoch_le u.epoch course.latest ≡ true) (sym (is_txn-true t c.txn (or_false (is_txn t c.txn) last))) (past.each c.txn follow.txn follow.known).within)
+    (λ (last : (is_txn t c.txn || false) ≡ true). subst (λ (u : TxnId). epoch_le u.epoch course.latest ≡ true) (sym (is_txn-true t c.txn (sym (or-false (is_txn t c.txn)) ∙ last))) (past.each c.txn follow.txn follow.known).within)
     (or_cases (holds entries t) (is_txn t c.txn || false) (sym (list_any-append (λ e. is_txn t e.txn) entries (as_entry c ∷ [])) ∙ h))
-  where
-    or_false : (b : Bool) → (b || false) ≡ true → b ≡ true
-    or_false true e = refl
-    or_false false e = e
 held_within_more course entries acknowledged txns (c ∷ d ∷ more) past follow t h = absurd follow
 
 -- The new epoch begins with nothing going on.

@@ -1,5 +1,5 @@
 -- At each state that world and disk stand for, the disk holds what was acknowledged.
-use Rattle.std.proofs.Common.{◌≡◌, ◌∙◌, sym, subst, ℕ, Bool, true, false, List, [], map, Option, Some, None, Ok, refl, append-nil, length, MatchBool}
+use Rattle.std.proofs.Common.{◌≡◌, ◌∙◌, sym, subst, ℕ, Bool, true, false, List, [], map, Option, Some, None, Ok, refl, append-nil, length}
 use Rattle.std.proofs.lemmas.Bool.{false≢true}
 use Rattle.disk_model.specs.Disk.{Areas, Each}
 use Rattle.log_store.specs.declared.kept.Kept.{Kept as Log}
@@ -12,7 +12,8 @@ use Rattle.replica.specs.Open.{Open}
 use Rattle.world.specs.Disks.{as_commit}
 use Rattle.world.specs.Kept.{Kept, has_booted}
 use Rattle.world.specs.Standing.{serving, resting, shut}
-use Rattle.world.specs.World.{StandsFor, AsReplica, AsRole, Serving, Resting, Closed, IsNew, IsRuled, StillHolds}
+use Rattle.world.specs.World.{StandsFor, AsReplica, AsRole, Serving, Resting, Closed, StillHolds}
+use Rattle.world.proofs.Later.{new_of, replica_of}
 use Rattle.world.proofs.Sound.{BeginsWith, begins_still}
 
 pub of_one : (entries : List Entry) (images : Areas → Type 0) (log : Log) → StandFor log images → BeginsWith entries log → Each images (λ c. (l : Log) × (durable c ≡ Ok l) × BeginsWith entries l)
@@ -41,15 +42,9 @@ still_replica : (o : Option Open) (last : ℕ) (images : Areas → Type 0) (m : 
 still_replica None last images m s = still_closed last images m s
 still_replica (Some r) last images m s = still_role r.role last r images m s
 
-new_at : (k : Kept) (images : Areas → Type 0) (m : Machine) → has_booted k ≡ false → StandsFor k images m → IsNew k images m
-new_at k images m e s = subst (λ b. MatchBool b (AsReplica k.replica k.last images m × IsRuled k m) (IsNew k images m)) e s
-
-replica_at : (k : Kept) (images : Areas → Type 0) (m : Machine) → has_booted k ≡ true → StandsFor k images m → AsReplica k.replica k.last images m
-replica_at k images m e s = (subst (λ b. MatchBool b (AsReplica k.replica k.last images m × IsRuled k m) (IsNew k images m)) e s).0
-
 still_by : (booted : Bool) (k : Kept) (images : Areas → Type 0) (m : Machine) → has_booted k ≡ booted → StandsFor k images m → StillHolds m images
-still_by true k images m e s = still_replica k.replica k.last images m (replica_at k images m e s)
-still_by false k images m e s = λ b. absurd (let n = new_at k images m e s in false≢true (subst (λ w. is_booted w ≡ true) n.is b))
+still_by true k images m e s = still_replica k.replica k.last images m (replica_of k images m e s)
+still_by false k images m e s = λ b. absurd (let n = new_of k images m e s in false≢true (subst (λ w. is_booted w ≡ true) n.is b))
 
 pub stands_still : (k : Kept) (images : Areas → Type 0) (m : Machine) → StandsFor k images m → StillHolds m images
 stands_still k images m s = still_by (has_booted k) k images m refl s

@@ -3,10 +3,10 @@ use Rattle.std.proofs.Common.{◌≡◌, ◌∙◌, sym, ap, subst, refl, ℕ, �
 use Rattle.std.specs.Prelude.{is_some}
 use Rattle.std.specs.List.{list_any}
 use Rattle.std.proofs.lemmas.Bool.{or_left, or_right}
-use Rattle.std.proofs.lemmas.Bool.Decides.{nat_tests}
 use Rattle.rc_base.specs.declared.ids.Epoch.{Epoch}
 use Rattle.rc_base.specs.declared.ids.TxnId.{TxnId}
 use Rattle.rc_base.specs.Ids.{no_epoch, is_epoch, epoch_lt, epoch_le}
+use Rattle.replica.proofs.EpochOrder.{epoch_le_lt, epoch_le_not, epoch_lt_asym, epoch_lt_le}
 use Rattle.rc_base.proofs.SameIds.{is_epoch_same}
 use Rattle.config_rule.specs.declared.answers.Answer.{Answer}
 use Rattle.config_rule.specs.Rule.{with_answer}
@@ -137,7 +137,7 @@ answered_surveyed last number r o images now m e rising s allowed above high st 
 -- ---- a survey of an epoch below the fence
 
 fence_above : (l e f : Epoch) → epoch_lt l e ≡ true → epoch_lt e f ≡ true → epoch_le f l ≡ true → ⊥
-fence_above l e f low up le = grind (arith, nat_tests)
+fence_above l e f low up le = epoch_le_not f l le (epoch_le_lt l e f (epoch_lt_le l e low) up)
 
 -- its fence is that of a survey
 fence_told : (last : ℕ) (r : Open) (images : Areas → Type 0) (m : Machine) (e : Epoch) → Resting last r images (without_role m 0) → RoleEnds m r.fence → is_above_all m e ≡ true → epoch_lt e r.fence ≡ true → is_told m r.fence ≡ true
@@ -197,9 +197,6 @@ alike_role : (role : Role) (last number : ℕ) (r o : Open) (images now : Areas 
 alike_role Other last number r o images now m rising st s = alike_resting last number r o images now m rising st s
 alike_role (Primary epoch active) last number r o images now m rising st s = alike_serving last number r o images now m rising st s
 
-not_both : (a b : Epoch) → epoch_lt a b ≡ true → epoch_lt b a ≡ false
-not_both a b low = grind (arith, nat_tests)
-
 -- the step leaves it so
 unsurveyed : (r o : Open) (e : Epoch) (images now : Areas → Type 0) → epoch_lt e r.fence ≡ true → IsSurveyed r o e images now → IsAlike r o images now
 unsurveyed r o e images now low st =
@@ -207,7 +204,7 @@ unsurveyed r o e images now low st =
     record {
       same = st.same.same ∙ ap (λ (x : Open). record x { log = o.log; front = o.front }) step;
       alike = subst (λ (x : Open). AreAlike o.front x.front) step st.same.front;
-      stands = λ log allowed. subst (λ (l : Log). IsOpen o l now) (ap (λ (b : Bool). after log (cond b (Fence e ∷ []) [] ++ [])) (not_both e r.fence low)) (st.stands log allowed);
+      stands = λ log allowed. subst (λ (l : Log). IsOpen o l now) (ap (λ (b : Bool). after log (cond b (Fence e ∷ []) [] ++ [])) (epoch_lt_asym e r.fence low)) (st.stands log allowed);
     }
 
 pub ignored_surveyed : (last number : ℕ) (r o : Open) (images now : Areas → Type 0) (m : Machine) (e : Epoch) → last ≤ number → AsRole r.role last r images m → Resting last r images (without_role m 0) → RoleEnds m r.fence → refusal m (Survey 0 e) ≡ None → is_above_all m e ≡ true → HoldsBehind m → epoch_lt e r.fence ≡ true → IsSurveyed r o e images now →

@@ -1,8 +1,9 @@
 -- A survey in a world: where it is refused, and what it does.
-use Rattle.std.proofs.Common.{◌≡◌, ◌∙◌, sym, ap, ap₂, subst, refl, ℕ, ◌≤◌, max, Bool, true, false, cond, not, ◌&&◌, nat_lt, List, [], ◌∷◌, ◌++◌, map, Option, Some, None, is_some, Result, Ok, Err, IfOk, OnOk, OnErr, inr, arith}
+use Rattle.std.proofs.Common.{◌≡◌, ◌∙◌, sym, ap, ap₂, subst, refl, ℕ, ◌≤◌, max, Bool, true, false, cond, not, ◌&&◌, nat_lt, List, [], ◌∷◌, ◌++◌, map, Some, None, is_some, Result, Ok, Err, IfOk, OnOk, OnErr, inr}
 use Rattle.std.specs.List.{cons_option}
 use Rattle.std.proofs.lemmas.Option.{same_Some}
-use Rattle.std.proofs.lemmas.Bool.Decides.{nat_tests}
+use Rattle.world.proofs.Plain.{not_below, not_newly}
+use Rattle.world.proofs.Booted.{once_standing}
 use Rattle.rc_base.specs.declared.ids.Epoch.{Epoch}
 use Rattle.rc_base.specs.Ids.{no_epoch, epoch_lt}
 use Rattle.config_rule.specs.declared.answers.Answer.{Answer}
@@ -17,7 +18,7 @@ use Rattle.order_machine.specs.declared.observation.Observation.TheVariants as s
 use Rattle.order_machine.specs.Order.{length_of}
 use Rattle.order_machine.specs.Machine as machine
 use Rattle.order_machine.specs.Machine.{Machine, replica, order_of, without_role}
-use Rattle.order_machine.specs.Rows.{refusal, once_booted, down_of, is_above_all, with_survey}
+use Rattle.order_machine.specs.Rows.{refusal, down_of, is_above_all, with_survey}
 use Rattle.order_machine.specs.Legal.{IsWhole, moved}
 use Rattle.txn_front.specs.Front.{nothing}
 use Rattle.replica.specs.declared.role.Role.{Role}
@@ -42,11 +43,8 @@ use Rattle.world.proofs.Surveys.{RoleEnds, role_ends, survey_noted, shut_of}
 
 -- ---- refusals
 
-once : (m : Machine) (o : Option Observation) → machine.is_booted m ≡ true → once_booted m o ≡ o
-once m o booted = ap (λ (b : Bool). cond b o (Some (says.Refused 9))) booted
-
 refusal_is : (m : Machine) (e : Epoch) (b : Bool) → machine.is_booted m ≡ true → is_above_all m e ≡ b → refusal m (Survey 0 e) ≡ cond b (down_of m 0) (Some (says.Refused 1))
-refusal_is m e b booted above = once m (cond (is_above_all m e) (down_of m 0) (Some (says.Refused 1))) booted ∙ ap (λ (c : Bool). cond c (down_of m 0) (Some (says.Refused 1))) above
+refusal_is m e b booted above = once_standing m (cond (is_above_all m e) (down_of m 0) (Some (says.Refused 1))) booted ∙ ap (λ (c : Bool). cond c (down_of m 0) (Some (says.Refused 1))) above
 
 above_is : (k : Kept) (images : Areas → Type 0) (e : Epoch) (known : Known) (b : Bool) → k.rule ≡ Some known → is_above known.appointed e ≡ b → (m : Machine) → StandsFor k images m → is_above_all m e ≡ b
 above_is k images e known b rule above m s =
@@ -76,13 +74,6 @@ told_quiet : (r s : Open) (answer : Observation) → nat_lt r.shown s.shown ≡ 
 told_quiet r s answer shown active =
     ap₂ (λ (a b : Bool). map order_line [] ++ cons_if a (says.View r.id s.shown) ++ cons_if b (says.Active r.id) ++ map says.Committed [] ++ cons_option (Some answer) []) shown active
 
-not_less : (n : ℕ) → nat_lt n n ≡ false
-not_less n = grind (arith, nat_tests)
-
-not_newly : (b : Bool) → (b && not b) ≡ false
-not_newly true = refl
-not_newly false = refl
-
 pub told_survey : (r : Open) (e : Epoch) → told_by r (steps.Survey e) ≡ survey_answer r e ∷ []
 told_survey r e = by (epoch_lt e r.fence) (survey_answer r e)
   where
@@ -90,8 +81,8 @@ told_survey r e = by (epoch_lt e r.fence) (survey_answer r e)
     laid = record r { fence = later r.fence e; role = Other; front = nothing no_epoch }
 
     by : (low : Bool) (answer : Observation) → told r.id r.shown (step_spec.is_active r.role) (quiet (cond low r laid) (Some answer)) ≡ answer ∷ []
-    by true answer = told_quiet r r answer (not_less r.shown) (not_newly (step_spec.is_active r.role))
-    by false answer = told_quiet r laid answer (not_less r.shown) refl
+    by true answer = told_quiet r r answer (not_below r.shown) (not_newly (step_spec.is_active r.role))
+    by false answer = told_quiet r laid answer (not_below r.shown) refl
 
 -- none of them tells a fault
 pub survey_faultless : (q : ℕ) (r : Open) (e : Epoch) → faults_in q (told_by r (steps.Survey e)) ≡ 0
