@@ -1,14 +1,8 @@
 use crate::row_tests::{committed, joined, uncommitted};
-use crate::tests::{add, answered};
+use crate::tests::{add, answered, back, stop_in_transaction};
 use std::alloc::{AllocError, Global};
 use std::process::Abort;
 use std::test::*;
-
-// The way back of replica 0 as the primary of a second epoch, behind a stop with this pick.
-fn back(script: &mut Vec<u8>, pick: u64) -> Result<(), AllocError> {
-    add(script, b"crash 0 ", pick)?;
-    script.extend_from_slice(b"\nreboot 0\nsurvey 0 0.2\nappoint 0.2 0 0\ninspect 0\n")
-}
 
 // A commit of the first transaction whose call of this number fails, a stop, and the way back.
 fn stop_in_commit(alloc: Global, calls: u64, pick: u64) -> Result<Vec<u8>, AllocError> {
@@ -54,18 +48,7 @@ fn stop_in_barrier_append(rt: HostRuntime) -> Result<(), Fail> {
     )
 }
 
-// The first transaction over a disk of which this call fails, a stop, and the way back.
-fn stop_in_transaction(alloc: Global, calls: u64, pick: u64) -> Result<Vec<u8>, AllocError> {
-    let mut script = Vec::from_slice(alloc, b"boot 0 0\n")?;
-    add(&mut script, b"arm 0 ", calls)?;
-    script.extend_from_slice(
-        b"\nbegin 0\nmake 0 0.1.1 d dict\nset 0 0.1.1 d k v\ncommit 0 0.1.1\n",
-    )?;
-    back(&mut script, pick)?;
-    Ok(script)
-}
-
-// What it prints up to the stop.
+// What a script of `stop_in_transaction` prints up to the stop.
 const STOP_BEGUN: &[u8] = b"1 up 0\n1 view 0 0\n1 active 0\n1 ok\n2 ok\n3 txn 0.1.1\n";
 
 // The same behind it, where nothing was committed that the log has.

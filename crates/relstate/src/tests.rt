@@ -218,16 +218,20 @@ fn stops_in_a_commit(rt: HostRuntime) -> Result<(), Fail> {
     Ok(())
 }
 
-// A transaction on a disk that was armed before it, a stop, and what the replica shows then.
-fn stop_in_transaction(alloc: Global, calls: u64, pick: u64) -> Result<Vec<u8>, AllocError> {
+// The way back of replica 0 as the primary of a second epoch, behind a stop with this pick.
+pub fn back(script: &mut Vec<u8>, pick: u64) -> Result<(), AllocError> {
+    add(script, b"crash 0 ", pick)?;
+    script.extend_from_slice(b"\nreboot 0\nsurvey 0 0.2\nappoint 0.2 0 0\ninspect 0\n")
+}
+
+// The first transaction over a disk of which this call fails, a stop, and the way back.
+pub fn stop_in_transaction(alloc: Global, calls: u64, pick: u64) -> Result<Vec<u8>, AllocError> {
     let mut script = Vec::from_slice(alloc, b"boot 0 0\n")?;
     add(&mut script, b"arm 0 ", calls)?;
-    add(
-        &mut script,
-        b"\nbegin 0\nmake 0 0.1.1 d dict\nset 0 0.1.1 d k v\ncommit 0 0.1.1\ncrash 0 ",
-        pick,
+    script.extend_from_slice(
+        b"\nbegin 0\nmake 0 0.1.1 d dict\nset 0 0.1.1 d k v\ncommit 0 0.1.1\n",
     )?;
-    script.extend_from_slice(b"\nreboot 0\nsurvey 0 0.2\nappoint 0.2 0 0\ninspect 0\n")?;
+    back(&mut script, pick)?;
     Ok(script)
 }
 
@@ -243,13 +247,8 @@ fn is_whole_or_none(text: &[u8]) -> bool {
 
 // Whether the commit was acknowledged.
 fn is_acknowledged(text: &[u8]) -> bool {
-    let line = b"\n6 committed 0.1.1\n";
-    for at in 0..text.len() {
-        if text[at..].starts_with(line) {
-            return true;
-        }
-    }
-    false
+    let line = b"\n6 committed 0.1.1\n".as_slice();
+    text.windows(line.len()).any(|part| part == line)
 }
 
 // Whether that is so at each call that fails, up to a run in which none does.
