@@ -16,17 +16,17 @@ fn key(alloc: Global, name: &[u8], key: &[u8]) -> Result<LockName, Fail> {
     Ok(LockName::Key(name, Bytes::from_slice(alloc, key)?))
 }
 
-// The number of the transaction that holds, or 0 where the lock was granted.
-fn held_by(answer: Result<(), TakeError>) -> Result<u64, Fail> {
+// The number of the transaction that stands against the lock; none where it was granted.
+fn held_by(answer: Result<(), TakeError>) -> Result<Option<u64>, Fail> {
     match answer {
-        Ok(()) => Ok(0),
-        Err(TakeError::Held { by }) => Ok(by.n),
+        Ok(()) => Ok(None),
+        Err(TakeError::Held { by }) => Ok(Some(by.n)),
         Err(TakeError::NoMemory) => Err("out of memory")?,
     }
 }
 
-// A transaction that asks for a mode on a name, and the one that holds it against that, or 0.
-type Request = (u64, LockMode, u64);
+// A transaction that asks for a mode on a name, and the one that stands against that.
+type Request = (u64, LockMode, Option<u64>);
 
 // Each asks in turn, and is answered so.
 fn ask(
@@ -47,34 +47,39 @@ fn holds(rt: &impl Abort, locks: &Locks, n: u64, name: &LockName, mode: Option<L
     assert!(rt; locks.mode_of(txn(n), name) == mode, "{n}");
 }
 
-// Transaction 1 is granted the first mode, and transaction 2 asks for the second.
-fn second(
+// Transaction 1 is granted a mode, and transaction 2 asks for one behind it.
+fn ask_behind(
     rt: &impl Abort,
     alloc: Global,
     first: LockMode,
-    second: LockMode,
-    holder: u64,
+    behind: LockMode,
+    holder: Option<u64>,
 ) -> Result<(), Fail> {
     let mut locks = Locks::new(alloc);
     let name = key(alloc, b"d", b"k")?;
-    ask(rt, &mut locks, &name, &[(1, first, 0), (2, second, holder)])
+    ask(
+        rt,
+        &mut locks,
+        &name,
+        &[(1, first, None), (2, behind, holder)],
+    )
 }
 
 #[test]
 fn lock_table(rt: HostRuntime) -> Result<(), Fail> {
     let table = [
-        (LockMode::Shared, LockMode::Shared, 0),
-        (LockMode::Shared, LockMode::Update, 0),
-        (LockMode::Shared, LockMode::Exclusive, 1),
-        (LockMode::Update, LockMode::Shared, 1),
-        (LockMode::Update, LockMode::Update, 1),
-        (LockMode::Update, LockMode::Exclusive, 1),
-        (LockMode::Exclusive, LockMode::Shared, 1),
-        (LockMode::Exclusive, LockMode::Update, 1),
-        (LockMode::Exclusive, LockMode::Exclusive, 1),
+        (LockMode::Shared, LockMode::Shared, None),
+        (LockMode::Shared, LockMode::Update, None),
+        (LockMode::Shared, LockMode::Exclusive, Some(1)),
+        (LockMode::Update, LockMode::Shared, Some(1)),
+        (LockMode::Update, LockMode::Update, Some(1)),
+        (LockMode::Update, LockMode::Exclusive, Some(1)),
+        (LockMode::Exclusive, LockMode::Shared, Some(1)),
+        (LockMode::Exclusive, LockMode::Update, Some(1)),
+        (LockMode::Exclusive, LockMode::Exclusive, Some(1)),
     ];
     for (first, behind, holder) in table {
-        second(&rt, rt.alloc(), first, behind, holder)?;
+        ask_behind(&rt, rt.alloc(), first, behind, holder)?;
     }
     Ok(())
 }
@@ -83,10 +88,13 @@ fn lock_table(rt: HostRuntime) -> Result<(), Fail> {
 fn conflicting_writers(rt: HostRuntime) -> Result<(), Fail> {
     let mut locks = Locks::new(rt.alloc());
     let name = key(rt.alloc(), b"d", b"k")?;
-    let before = [(2, LockMode::Exclusive, 0), (3, LockMode::Exclusive, 2)];
+    let before = [
+        (2, LockMode::Exclusive, None),
+        (3, LockMode::Exclusive, Some(2)),
+    ];
     ask(&rt, &mut locks, &name, &before)?;
     locks.release(txn(2));
-    ask(&rt, &mut locks, &name, &[(3, LockMode::Exclusive, 0)])
+    ask(&rt, &mut locks, &name, &[(3, LockMode::Exclusive, None)])
 }
 
 #[test]
@@ -94,9 +102,9 @@ fn shared_again_beside_update(rt: HostRuntime) -> Result<(), Fail> {
     let mut locks = Locks::new(rt.alloc());
     let name = key(rt.alloc(), b"d", b"k")?;
     let requests = [
-        (1, LockMode::Shared, 0),
-        (2, LockMode::Update, 0),
-        (1, LockMode::Shared, 2),
+        (1, LockMode::Shared, None),
+        (2, LockMode::Update, None),
+        (1, LockMode::Shared, Some(2)),
     ];
     ask(&rt, &mut locks, &name, &requests)?;
     holds(&rt, &locks, 1, &name, Some(LockMode::Shared));
@@ -108,13 +116,13 @@ fn first_in_order_of_grant(rt: HostRuntime) -> Result<(), Fail> {
     let mut locks = Locks::new(rt.alloc());
     let name = key(rt.alloc(), b"d", b"k")?;
     let requests = [
-        (5, LockMode::Shared, 0),
-        (3, LockMode::Shared, 0),
-        (4, LockMode::Shared, 0),
-        (4, LockMode::Exclusive, 5),
-        (5, LockMode::Exclusive, 3),
-        (3, LockMode::Update, 0),
-        (6, LockMode::Shared, 3),
+        (5, LockMode::Shared, None),
+        (3, LockMode::Shared, None),
+        (4, LockMode::Shared, None),
+        (4, LockMode::Exclusive, Some(5)),
+        (5, LockMode::Exclusive, Some(3)),
+        (3, LockMode::Update, None),
+        (6, LockMode::Shared, Some(3)),
     ];
     ask(&rt, &mut locks, &name, &requests)
 }
@@ -123,15 +131,15 @@ fn first_in_order_of_grant(rt: HostRuntime) -> Result<(), Fail> {
 fn release_takes_one_away(rt: HostRuntime) -> Result<(), Fail> {
     let mut locks = Locks::new(rt.alloc());
     let (k, l) = (key(rt.alloc(), b"d", b"k")?, key(rt.alloc(), b"d", b"l")?);
-    let shared = [(1, LockMode::Shared, 0), (2, LockMode::Shared, 0)];
+    let shared = [(1, LockMode::Shared, None), (2, LockMode::Shared, None)];
     ask(&rt, &mut locks, &k, &shared)?;
-    ask(&rt, &mut locks, &l, &[(1, LockMode::Exclusive, 0)])?;
+    ask(&rt, &mut locks, &l, &[(1, LockMode::Exclusive, None)])?;
     locks.release(txn(1));
     holds(&rt, &locks, 1, &k, None);
     holds(&rt, &locks, 1, &l, None);
     holds(&rt, &locks, 2, &k, Some(LockMode::Shared));
-    ask(&rt, &mut locks, &k, &[(1, LockMode::Exclusive, 2)])?;
-    ask(&rt, &mut locks, &l, &[(2, LockMode::Exclusive, 0)])?;
+    ask(&rt, &mut locks, &k, &[(1, LockMode::Exclusive, Some(2))])?;
+    ask(&rt, &mut locks, &l, &[(2, LockMode::Exclusive, None)])?;
     locks.release(txn(7));
     holds(&rt, &locks, 2, &l, Some(LockMode::Exclusive));
     Ok(())
@@ -141,10 +149,10 @@ fn release_takes_one_away(rt: HostRuntime) -> Result<(), Fail> {
 fn strongest_mode_stays(rt: HostRuntime) -> Result<(), Fail> {
     let mut locks = Locks::new(rt.alloc());
     let name = key(rt.alloc(), b"d", b"k")?;
-    let rising = [(1, LockMode::Shared, 0), (1, LockMode::Exclusive, 0)];
+    let rising = [(1, LockMode::Shared, None), (1, LockMode::Exclusive, None)];
     ask(&rt, &mut locks, &name, &rising)?;
     holds(&rt, &locks, 1, &name, Some(LockMode::Exclusive));
-    ask(&rt, &mut locks, &name, &[(1, LockMode::Update, 0)])?;
+    ask(&rt, &mut locks, &name, &[(1, LockMode::Update, None)])?;
     holds(&rt, &locks, 1, &name, Some(LockMode::Exclusive));
     Ok(())
 }
@@ -159,7 +167,7 @@ fn ask_whole(
     locks: &mut Locks,
     n: u64,
     name: LockName,
-    holder: u64,
+    holder: Option<u64>,
 ) -> Result<(), Fail> {
     ask(rt, locks, &name, &[(n, LockMode::Exclusive, holder)])
 }
@@ -168,11 +176,11 @@ fn ask_whole(
 fn four_kinds_of_names(rt: HostRuntime) -> Result<(), Fail> {
     let alloc = rt.alloc();
     let mut locks = Locks::new(alloc);
-    ask_whole(&rt, &mut locks, 1, LockName::Name(name(alloc)?), 0)?;
-    ask_whole(&rt, &mut locks, 2, key(alloc, b"d", b"d")?, 0)?;
-    ask_whole(&rt, &mut locks, 3, LockName::Head(name(alloc)?), 0)?;
-    ask_whole(&rt, &mut locks, 4, LockName::Tail(name(alloc)?), 0)?;
-    ask_whole(&rt, &mut locks, 5, LockName::Tail(name(alloc)?), 4)?;
+    ask_whole(&rt, &mut locks, 1, LockName::Name(name(alloc)?), None)?;
+    ask_whole(&rt, &mut locks, 2, key(alloc, b"d", b"d")?, None)?;
+    ask_whole(&rt, &mut locks, 3, LockName::Head(name(alloc)?), None)?;
+    ask_whole(&rt, &mut locks, 4, LockName::Tail(name(alloc)?), None)?;
+    ask_whole(&rt, &mut locks, 5, LockName::Tail(name(alloc)?), Some(4))?;
     Ok(())
 }
 
