@@ -27,6 +27,3 @@ pub use parsing::read_obs;
 pub use printing::print;
 pub use reply::Reply;
 pub use word_list::Words;
-
-#[cfg(test)]
-mod tests;

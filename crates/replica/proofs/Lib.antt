@@ -1,6 +1,5 @@
 pub mod Calls
 pub mod EpochOrder
-pub mod Examples
 pub mod Lengthened
 pub mod OneMore
 pub mod OneRecord

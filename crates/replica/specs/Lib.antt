@@ -1,4 +1,3 @@
-pub mod Examples
 pub mod Logging
 pub mod Open
 pub mod Reading

@@ -18,6 +18,3 @@ pub use replica::Replica;
 pub use role::Role;
 pub use step::{Outcome, StepEvent};
 pub use txn_ids::TxnIds;
-
-#[cfg(test)]
-mod tests;

@@ -14,6 +14,3 @@ pub mod words;
 pub use event::{Call, Event};
 pub use read::{ScriptError, read_event};
 pub use replicas::Replicas;
-
-#[cfg(test)]
-mod tests;

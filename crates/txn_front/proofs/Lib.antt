@@ -4,4 +4,3 @@ pub mod Seen
 pub mod OnKeys
 pub mod Fronts
 pub mod Asked
-pub mod Examples

@@ -7,6 +7,3 @@ mod going;
 
 pub use front::{Front, txn_named};
 pub use going::Going;
-
-#[cfg(test)]
-mod tests;
