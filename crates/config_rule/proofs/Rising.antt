@@ -10,8 +10,7 @@ use Rattle.std.specs.Cmp.{nat_cmp_total}
 use Rattle.std.proofs.lemmas.Bool.Decides.{nat_tests}
 use Rattle.std.proofs.lemmas.Map.Keys.{sorted_from_strictly_increasing, sorted_head, sorted_tail}
 use Rattle.std.proofs.lemmas.Map.Lookups.{btree_set_from_contains, exact_unsigned}
-use Rattle.std.proofs.lemmas.List.Sorted.{list_any-IsPermutation}
-use Rattle.std.proofs.lemmas.List.Sorted.{length_permutation}
+use Rattle.std.proofs.lemmas.List.Sorted.{list_any-IsPermutation, length_permutation}
 use Rattle.std.proofs.lemmas.Bool.{and_parts, leb-true}
 use Rattle.rc_base.specs.declared.ids.Epoch.{Epoch}
 use Rattle.config_rule.specs.Rule.{Known, first_broken, broken_appointment, is_above, are_members, has_quorum, has_answered_last, tells_most}

@@ -1,9 +1,10 @@
 -- Legal transcripts: the lines are those of the events, from a start, nothing else held.
 use Rattle.std.specs.Prelude.{◌≡◌, ℕ, List, [], ◌∷◌, ◌++◌, MatchOption, is_some, if◌then◌else◌}
-use Rattle.script_text.specs.declared.event.Event.{Event}
+use Rattle.events.specs.declared.event.Event.{Event}
 use Rattle.order_machine.specs.declared.observation.Observation.{Observation}
+use Rattle.order_machine.specs.AnswerLines.{line_of_answer}
 use Rattle.order_machine.specs.Machine.{Machine}
-use Rattle.order_machine.specs.Rows.{Position, refusal, opened, May, after, IsComplete, HoldsBehind}
+use Rattle.order_machine.specs.Transitions.{Position, refusal, opened, May, after, IsComplete, HoldsBehind}
 
 -- ---- one event
 
@@ -23,7 +24,7 @@ pub record IsServed (p : Position) (lines : List Observation) : Type 0 where
 
 -- these are all lines of the event: the one line that refuses it, or those of its rows
 abbrev pub IsWhole : Machine → Event → List Observation → Type 0
-IsWhole m event lines = MatchOption (refusal m event) (IsServed (opened m event) lines) (λ refused. lines ≡ refused ∷ [])
+IsWhole m event lines = MatchOption (refusal m event) (IsServed (opened m event) lines) (λ refused. lines ≡ line_of_answer refused ∷ [])
 
 -- some more lines follow with which the event is whole
 abbrev pub IsBegun : Machine → Event → List Observation → Type 0

@@ -10,8 +10,7 @@ use Rattle.key_locks.specs.Grants.{Grant}
 use Rattle.config_rule.specs.declared.answers.Answer.{Answer}
 use Rattle.config_rule.specs.declared.appointments.Appointed.{Appointed}
 use Rattle.config_rule.specs.Rule.{Known}
-use Rattle.script_text.specs.declared.event.Call.{Call}
-use Rattle.order_machine.specs.declared.observation.Observation.{Observation}
+use Rattle.events.specs.Calls.{CallRecord, ops_in}
 use Rattle.rc_base.specs.Ids.{is_epoch, is_txn}
 use Rattle.order_machine.specs.Order.{Order, empty_order, holds, first_of}
 
@@ -39,18 +38,12 @@ pub record Replica : Type 0 where
   pub grants : List Grant
   pub surveys : List Survey
 
--- a client call with its answer, and the operation that it logged
-pub record Noted : Type 0 where
-  pub call : Call
-  pub answer : Observation
-  pub op : Option Op
-
 -- A transaction: the replica that began it, what that showed then, its calls, whether it goes on, and whether its
 -- commit was asked.
 pub record Txn : Type 0 where
   pub home : ℕ
   pub shown_at_begin : ℕ
-  pub calls : List Noted
+  pub calls : List CallRecord
   pub live : Bool
   pub asked : Bool
 
@@ -195,4 +188,4 @@ is_pending m r t =
 
 -- the operations that T logged, in order
 abbrev pub ops_of : Txn → List Op
-ops_of x = filter_map (λ c. c.op) x.calls
+ops_of x = ops_in x.calls

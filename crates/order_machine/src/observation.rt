@@ -1,5 +1,9 @@
+ghost use Rattle.std.specs.Prelude.{◌≡◌};
+ghost use Rattle.order_machine.specs.AnswerLines as lines;
+
 use crate::word_list::Words;
 use coll_model::Ops;
+use events::Answer;
 use rc_base::{Bytes, Epoch, ReplicaId, TxnId};
 
 /// A line of the transcript behind its event's number. There is one variant for each form of line that is built so
@@ -54,4 +58,28 @@ pub enum Observation {
     State(ReplicaId, u64),
     /// `rows words`: a collection with its kind and its items.
     Rows(Words),
+}
+
+/// The line of an answer. It takes no memory.
+pub fn line_of_answer(answer: Answer) -> Observation
+    ensures { result ≡ lines.line_of_answer answer }
+{
+    match answer {
+        Answer::Txn(txn) => Observation::Txn(txn),
+        Answer::Done => Observation::Done,
+        Answer::True => Observation::True,
+        Answer::False => Observation::False,
+        Answer::Value(value) => Observation::Value(value),
+        Answer::Missing => Observation::Missing,
+        Answer::Absent => Observation::Absent,
+        Answer::WrongKind => Observation::WrongKind,
+        Answer::Ended(txn) => Observation::Ended(txn),
+        Answer::Locked(txn) => Observation::Locked(txn),
+        Answer::NotActive(id) => Observation::NotActive(id),
+        Answer::Down(id) => Observation::Down(id),
+        Answer::Refused(part) => Observation::Refused(part),
+        Answer::Progress(id, epoch, last) => Observation::Progress(id, epoch, last),
+        Answer::IgnoredUp => Observation::IgnoredUp,
+        Answer::IgnoredOldEpoch(fence, epoch) => Observation::IgnoredOldEpoch(fence, epoch),
+    }
 }

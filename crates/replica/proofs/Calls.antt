@@ -13,12 +13,13 @@ use Rattle.rc_base.specs.declared.ids.Lsn.{Lsn}
 use Rattle.rc_base.specs.declared.ids.TxnId.{TxnId}
 use Rattle.coll_model.specs.declared.op.Op.{Op}
 use Rattle.coll_model.specs.Effect.{State, folded}
-use Rattle.script_text.specs.declared.event.Call.{Call}
-use Rattle.script_text.specs.declared.event.Call.TheVariants as calls
+use Rattle.events.specs.declared.call.Call.{Call}
+use Rattle.events.specs.declared.call.Call.TheVariants as calls
 use Rattle.order_machine.specs.declared.observation.Observation.TheVariants as says
-use Rattle.order_machine.specs.declared.reply.Reply.{Reply}
-use Rattle.order_machine.specs.Locking.{locks_at, taken}
-use Rattle.order_machine.specs.Answers.{plain, txn_named, live_reply}
+use Rattle.events.specs.declared.answer.Reply.{Reply}
+use Rattle.events.specs.Locking.{locks_at, taken}
+use Rattle.events.specs.Answers.{plain, live_reply}
+use Rattle.events.specs.Calls.{txn_named}
 use Rattle.log_records.specs.declared.record.Record.{Record}
 use Rattle.log_records.specs.declared.record.Record.TheVariants.{Begin, Operation, End}
 use Rattle.log_records.specs.declared.record.Physical.{Physical}

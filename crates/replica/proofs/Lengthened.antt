@@ -14,11 +14,12 @@ use Rattle.rc_base.specs.Ids.{epoch_lt, no_epoch}
 use Rattle.replica.proofs.EpochOrder.{epoch_le_not, epoch_lt_le}
 use Rattle.coll_model.specs.declared.op.Op.{Op}
 use Rattle.coll_model.specs.Effect.{State, folded}
-use Rattle.script_text.specs.declared.event.Call.{Call}
-use Rattle.script_text.specs.declared.event.Call.TheVariants as calls
-use Rattle.order_machine.specs.declared.reply.Reply.{Reply}
-use Rattle.order_machine.specs.Locking.{locks_at, taken}
-use Rattle.order_machine.specs.Answers.{txn_named, live_reply}
+use Rattle.events.specs.declared.call.Call.{Call}
+use Rattle.events.specs.declared.call.Call.TheVariants as calls
+use Rattle.events.specs.declared.answer.Reply.{Reply}
+use Rattle.events.specs.Locking.{locks_at, taken}
+use Rattle.events.specs.Calls.{txn_named}
+use Rattle.events.specs.Answers.{live_reply}
 use Rattle.log_records.specs.declared.record.Record.{Record}
 use Rattle.log_records.specs.declared.record.Record.TheVariants.{Begin, Operation, End, Barrier, EpochStart}
 use Rattle.log_records.specs.declared.record.Physical.TheVariants.{Logical, Fence}

@@ -36,7 +36,7 @@ use Rattle.replica.specs.declared.role.Role.TheVariants.{Other, Primary}
 use Rattle.replica.specs.Open.{Open, stable_told, commits_to, state_of, IsKnownAs, IsPrimary, HasRole, AgreesWith}
 use Rattle.replica.specs.Step.{is_active, behind, lengthened, started}
 use Rattle.replica.proofs.OneMore.{next, known_push, commits_in_push, last_push, stable_push, known_is, with_map, with_begin, known_before, known_or_new, fresh, others_stay}
-use Rattle.order_machine.proofs.ProtectedStates.{IsOrdered-folded}
+use Rattle.lock_laws.proofs.ProtectedStates.{IsOrdered-folded}
 use Rattle.txn_front.proofs.Fronts.{IsOver-nothing}
 use Rattle.replica.proofs.Puts.{Puts, going_is}
 

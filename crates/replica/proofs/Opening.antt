@@ -21,9 +21,9 @@ use Rattle.log_store.specs.Log.{Items, last_from, last_epoch, known_in, commits_
 use Rattle.replica.specs.declared.mounting.Shown.{Shown}
 use Rattle.log_store.specs.declared.durable.Durable.{Durable}
 use Rattle.log_store.specs.Store.{Store, kept_as}
-use Rattle.order_machine.specs.OrderedStates.{IsOrdered}
+use Rattle.lock_laws.specs.OrderedStates.{IsOrdered}
 use Rattle.txn_front.specs.Front.{Fronted, nothing}
-use Rattle.order_machine.proofs.ProtectedStates.{IsOrdered-nil, IsOrdered-folded}
+use Rattle.lock_laws.proofs.ProtectedStates.{IsOrdered-nil, IsOrdered-folded}
 use Rattle.txn_front.proofs.Fronts.{IsOver-nothing}
 use Rattle.replica.specs.declared.role.Role.TheVariants.{Other}
 use Rattle.replica.specs.Open.{Open, stable_told, stable_in, commits_to, state_of, AgreesWith}

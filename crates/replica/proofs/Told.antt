@@ -11,12 +11,14 @@ use Rattle.coll_model.specs.declared.op.Op.{Op}
 use Rattle.coll_model.specs.declared.contents.Contents.{Contents}
 use Rattle.coll_model.specs.declared.contents.Contents.TheVariants.{Dict, Queue}
 use Rattle.coll_model.specs.Effect.{State, at_key, folded}
-use Rattle.script_text.specs.declared.event.Call.{Call}
-use Rattle.script_text.specs.declared.event.Call.TheVariants as calls
+use Rattle.events.specs.declared.call.Call.{Call}
+use Rattle.events.specs.declared.call.Call.TheVariants as calls
 use Rattle.order_machine.specs.declared.observation.Observation.TheVariants as says
-use Rattle.order_machine.specs.declared.reply.Reply.{Reply}
-use Rattle.order_machine.specs.Locking.{locks_at, against}
-use Rattle.order_machine.specs.Answers.{plain, txn_named, make_reply, get_reply, set_reply, add_reply, delete_reply, added, deleted, reply_to, locked_or, live_reply}
+use Rattle.events.specs.declared.answer.Reply.{Reply}
+use Rattle.events.specs.Locking.{locks_at, against}
+use Rattle.events.specs.Answers.{plain, make_reply, added, deleted, reply_to, locked_or, live_reply}
+use Rattle.events.specs.Calls.{txn_named}
+use Rattle.order_machine.specs.Clients.{get_reply, set_reply, add_reply, delete_reply}
 use Rattle.log_records.specs.declared.record.Record.{Record}
 use Rattle.log_records.specs.declared.record.Record.TheVariants.{Begin, End}
 use Rattle.rc_base.specs.Names.{is_name}

@@ -8,12 +8,13 @@ use Rattle.rc_base.specs.Ids.{no_epoch, epoch_lt}
 use Rattle.rc_base.specs.Names.{is_name}
 use Rattle.coll_model.specs.declared.op.Op.{Op}
 use Rattle.coll_model.specs.Effect.{folded}
-use Rattle.script_text.specs.declared.event.Call.{Call}
-use Rattle.script_text.specs.declared.event.Call.TheVariants as calls
+use Rattle.events.specs.declared.call.Call.{Call}
+use Rattle.events.specs.declared.call.Call.TheVariants as calls
 use Rattle.order_machine.specs.declared.observation.Observation.{Observation}
 use Rattle.order_machine.specs.declared.observation.Observation.TheVariants as says
-use Rattle.order_machine.specs.declared.reply.Reply.{Reply}
-use Rattle.order_machine.specs.Answers.{plain, txn_named}
+use Rattle.events.specs.declared.answer.Reply.{Reply}
+use Rattle.events.specs.Answers.{plain}
+use Rattle.events.specs.Calls.{txn_named}
 use Rattle.log_records.specs.declared.record.Record.{Record}
 use Rattle.log_records.specs.declared.record.Record.TheVariants.{Begin, Operation, End, Barrier, EpochStart}
 use Rattle.log_records.specs.declared.record.Physical.{Physical}

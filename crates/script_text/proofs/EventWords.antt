@@ -9,10 +9,10 @@ use Rattle.rc_base.specs.declared.ids.TxnId.{TxnId}
 use Rattle.rc_base.specs.Names.{is_name_letter, is_name}
 use Rattle.coll_model.specs.declared.op.Kind.{Kind}
 use Rattle.coll_model.specs.declared.op.Kind.TheVariants as kinds
-use Rattle.script_text.specs.declared.event.Event.{Event}
-use Rattle.script_text.specs.declared.event.Event.TheVariants.{Boot, Client, Arm, Crash, Reboot, Inspect, Survey, Appoint, Activate}
-use Rattle.script_text.specs.declared.event.Call.{Call}
-use Rattle.script_text.specs.declared.event.Call.TheVariants as calls
+use Rattle.events.specs.declared.event.Event.{Event}
+use Rattle.events.specs.declared.event.Event.TheVariants.{Boot, Client, Arm, Crash, Reboot, Inspect, Survey, Appoint, Activate}
+use Rattle.events.specs.declared.call.Call.{Call}
+use Rattle.events.specs.declared.call.Call.TheVariants as calls
 use Rattle.script_text.specs.Letters.{is_key_letter, is_key_word, is_value_word}
 use Rattle.script_text.specs.Sentence.{words_at, words_of, epoch_text, txn_text, kind_text, members_text, IsEpoch, IsTxn, IsBuiltEpoch, IsBuiltTxn, IsBuiltCall, IsBuilt, Spells}
 use Rattle.script_text.specs.Reading.{epoch_parts, txn_parts, IsSentence}

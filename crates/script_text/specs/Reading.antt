@@ -3,8 +3,8 @@ use Rattle.std.specs.Prelude.{◌≡◌, ℕ, List, [], ◌∷◌, map, decimal,
 use Rattle.std.specs.Borrow.{Bor}
 use Rattle.rc_base.specs.declared.ids.Epoch.{Epoch}
 use Rattle.rc_base.specs.declared.ids.TxnId.{TxnId}
-use Rattle.script_text.specs.declared.event.Event.{Event}
-use Rattle.script_text.specs.declared.event.Call.{Call}
+use Rattle.events.specs.declared.event.Event.{Event}
+use Rattle.events.specs.declared.call.Call.{Call}
 use Rattle.script_text.specs.Sentence.{words_at, words_of, IsBuilt, IsBuiltCall}
 
 -- the texts that slices hold

@@ -1,6 +1,6 @@
 ghost use Rattle.std.specs.Prelude.{◌≡◌, ◌∷◌, List, ℕ, codes, decimal, IfOk, IfSome, IfNone};
-ghost use Rattle.script_text.specs.declared.event.Call.{Call as CallValue};
-ghost use Rattle.script_text.specs.declared.event.Event.TheVariants.{Client};
+ghost use Rattle.events.specs.declared.call.Call.{Call as CallValue};
+ghost use Rattle.events.specs.declared.event.Event.TheVariants.{Client};
 ghost use Rattle.script_text.specs.Reading.{texts, IsSentence, AreReadAs};
 
 use crate::calls::call_of;

@@ -1,5 +1,5 @@
 ghost use Rattle.std.specs.Prelude.{◌≡◌, ◌↔◌, IsTrue, ℕ, List, IfOk, IfSome, IfNone, IsErrOf};
-ghost use Rattle.script_text.specs.declared.event.Event.{Event};
+ghost use Rattle.events.specs.declared.event.Event.{Event};
 ghost use Rattle.script_text.specs.Sentence.{Spells, IsSkipped, IsBad};
 ghost use Rattle.script_text.specs.declared.read.ScriptError.TheVariants.{NoMemory as WantOfMemory};
 

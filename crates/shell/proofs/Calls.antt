@@ -4,10 +4,10 @@ use Rattle.std.specs.List.{list_all}
 use Rattle.std.proofs.lemmas.Bool.{false≢true}
 use Rattle.log_records.specs.Spelling.{is_key, is_value}
 use Rattle.script_text.specs.Letters.{is_key_letter, is_key_word, is_value_word}
-use Rattle.script_text.specs.declared.event.Event.{Event}
-use Rattle.script_text.specs.declared.event.Event.TheVariants.{Boot, Client, Arm, Crash, Reboot, Inspect, Survey, Appoint, Activate}
-use Rattle.script_text.specs.declared.event.Call.{Call}
-use Rattle.script_text.specs.declared.event.Call.TheVariants as calls
+use Rattle.events.specs.declared.event.Event.{Event}
+use Rattle.events.specs.declared.event.Event.TheVariants.{Boot, Client, Arm, Crash, Reboot, Inspect, Survey, Appoint, Activate}
+use Rattle.events.specs.declared.call.Call.{Call}
+use Rattle.events.specs.declared.call.Call.TheVariants as calls
 use Rattle.script_text.specs.Sentence.{IsBuilt, IsBuiltCall}
 use Rattle.replica.specs.Step.{CallFits}
 use Rattle.world.specs.World.{IsHere}

@@ -9,7 +9,7 @@ use Rattle.disk_model.specs.Laws.{same_some}
 use Rattle.log_store.specs.Durable.{durable, StandFor}
 use Rattle.log_store.specs.Fold.{no_log}
 use Rattle.rc_io.specs.Lines.{line_text}
-use Rattle.script_text.specs.declared.event.Event.{Event}
+use Rattle.events.specs.declared.event.Event.{Event}
 use Rattle.script_text.specs.Sentence.{Spells}
 use Rattle.order_machine.specs.declared.observation.Observation.{Observation}
 use Rattle.order_machine.specs.Machine.{Machine, is_booted, empty_machine}

@@ -10,12 +10,12 @@ use Rattle.rc_io.specs.Lines.{raw_lines, line_text}
 use Rattle.rc_io.specs.Limits.{limit_in, limit_of}
 use Rattle.rc_io.specs.Reader.{Reading}
 use Rattle.rc_io.specs.Reading.{GivesLine}
-use Rattle.script_text.specs.declared.event.Event.{Event}
+use Rattle.events.specs.declared.event.Event.{Event}
 use Rattle.script_text.specs.Sentence.{Spells, IsSkipped, IsBad}
 use Rattle.order_machine.specs.declared.observation.Observation.{Observation}
 use Rattle.order_machine.specs.Machine.{empty_machine}
 use Rattle.order_machine.specs.Legal.{moved_all}
-use Rattle.order_machine.specs.Lines.{lines_text, transcript_of}
+use Rattle.transcript_text.specs.Lines.{lines_text, transcript_of}
 use Rattle.world.specs.Fleet.{images_of, faults_of, marks_of, faults_in, marked_by, RoseBy}
 use Rattle.world.specs.Kept.{Kept}
 use Rattle.world.specs.World.{StandsFor}

@@ -5,12 +5,12 @@ use Rattle.std.proofs.lemmas.List.{append-nil}
 use Rattle.std.proofs.lemmas.List.Sums.{sum_by-append}
 use Rattle.rc_io.specs.Lines.{line_text}
 use Rattle.rc_io.specs.Limits.{limit_in}
-use Rattle.script_text.specs.declared.event.Event.{Event}
+use Rattle.events.specs.declared.event.Event.{Event}
 use Rattle.script_text.specs.Sentence.{Spells, IsSkipped}
 use Rattle.order_machine.specs.declared.observation.Observation.{Observation}
 use Rattle.order_machine.specs.Machine.{Machine}
 use Rattle.order_machine.specs.Legal.{Step, Filter, AreWhole, IsWhole, moved, moved_all}
-use Rattle.order_machine.specs.Lines.{lines_text, transcript_of}
+use Rattle.transcript_text.specs.Lines.{lines_text, transcript_of}
 use Rattle.shell.specs.Script.{AreSteps, AreWithin}
 
 abbrev pub step_of : ℕ → Event → List Observation → Step

@@ -2,7 +2,7 @@
 use Rattle.std.specs.Prelude.{◌≡◌, ◌⊎◌, ℕ, ◌+◌, List, [], ◌∷◌, Option, None}
 use Rattle.disk_model.specs.Disk.{Areas, Marks, Each}
 use Rattle.rc_io.specs.Lines.{line_text}
-use Rattle.script_text.specs.declared.event.Event.{Event}
+use Rattle.events.specs.declared.event.Event.{Event}
 use Rattle.script_text.specs.Sentence.{Spells}
 use Rattle.order_machine.specs.Machine.{empty_machine}
 use Rattle.order_machine.specs.Legal.{Step, moved_all}

@@ -6,7 +6,7 @@ use Rattle.rc_io.specs.Limits.{limit_of}
 use Rattle.script_text.specs.Sentence.{IsBad}
 use Rattle.order_machine.specs.Machine.{empty_machine}
 use Rattle.order_machine.specs.Legal.{Step, AreWhole}
-use Rattle.order_machine.specs.Lines.{transcript_of}
+use Rattle.transcript_text.specs.Lines.{transcript_of}
 use Rattle.shell.specs.Text.{bad_line_text, limit_line_text}
 use Rattle.shell.specs.Script.{AreSteps, AreWithin}
 

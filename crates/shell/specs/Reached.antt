@@ -6,7 +6,7 @@ use Rattle.rc_io.specs.Lines.{raw_lines}
 use Rattle.rc_io.specs.Reader.{Reading}
 use Rattle.order_machine.specs.Machine.{empty_machine}
 use Rattle.order_machine.specs.Legal.{Step, AreWhole, moved_all}
-use Rattle.order_machine.specs.Lines.{transcript_of}
+use Rattle.transcript_text.specs.Lines.{transcript_of}
 use Rattle.world.specs.Fleet.{images_of, faults_of, marks_of, RoseBy}
 use Rattle.world.specs.Kept.{Kept}
 use Rattle.world.specs.World.{StandsFor}

@@ -1,6 +1,6 @@
 ghost use Rattle.std.specs.Prelude.{◌≡◌, ◌++◌, IfOk, IsErrOf, decimal};
 ghost use Rattle.rc_base.specs.Counts.{Counted};
-ghost use Rattle.order_machine.specs.Lines.{lines_text};
+ghost use Rattle.transcript_text.specs.Lines.{lines_text};
 ghost use Rattle.shell.specs.Text as text;
 ghost use Rattle.shell.specs.Reached.{Writes};
 ghost use Rattle.shell.specs.declared.lines.WriteError.TheVariants.{NoMemory as no_memory};

@@ -12,10 +12,11 @@ use Rattle.rc_base.specs.Ids.{is_epoch}
 use Rattle.coll_model.specs.declared.op.Op.{Op}
 use Rattle.coll_model.specs.Effect.{State, folded}
 use Rattle.key_locks.specs.Grants.{Grant, Alike}
-use Rattle.script_text.specs.declared.event.Call.{Call}
-use Rattle.order_machine.specs.declared.reply.Reply.{Reply}
-use Rattle.order_machine.specs.Locking.{locks_at, taken}
-use Rattle.order_machine.specs.Answers.{txn_named, live_reply}
+use Rattle.events.specs.declared.call.Call.{Call}
+use Rattle.events.specs.declared.answer.Reply.{Reply}
+use Rattle.events.specs.Locking.{locks_at, taken}
+use Rattle.events.specs.Calls.{txn_named}
+use Rattle.events.specs.Answers.{live_reply}
 use Rattle.txn_front.specs.Front.{Going, Fronted, numbered, going_of, AreAlike, told, operated, called}
 use Rattle.txn_front.specs.Index.{noted}
 use Rattle.txn_front.proofs.Entries.{AreRising, entry_there}

@@ -18,18 +18,19 @@ use Rattle.coll_model.specs.declared.op.Op.{Op}
 use Rattle.coll_model.specs.Effect.{State, folded}
 use Rattle.key_locks.specs.Grants.{Grant, released, Alike}
 use Rattle.key_locks.proofs.Flat.{alike_released}
-use Rattle.script_text.specs.declared.event.Call.{Call}
+use Rattle.events.specs.declared.call.Call.{Call}
 use Rattle.order_machine.specs.declared.observation.Observation.TheVariants as says
-use Rattle.order_machine.specs.declared.reply.Reply.{Reply}
-use Rattle.order_machine.specs.Locking.{locks_at, taken}
-use Rattle.order_machine.specs.Answers.{plain, txn_named, live_reply, reply_to, locked_or}
-use Rattle.order_machine.specs.Protected.{HasLocks, AreLocked, locks_of}
-use Rattle.order_machine.specs.OrderedStates.{IsOrdered}
-use Rattle.order_machine.specs.OwnOperations.{IsBuilt, AreEffective}
-use Rattle.order_machine.proofs.ProtectedGrants.{AreExclusive-nil, AreExclusive-taken, AreExclusive-released, AreExclusive-alike, against-alike, Alike-taken}
-use Rattle.order_machine.proofs.ProtectedStates.{IsOrdered-folded, LooksSame-foreign_folded}
-use Rattle.order_machine.proofs.ProtectedCalls.{AreLocked-taken, AreLocked-released, AreLocked-alike, live_logged, live_locked}
-use Rattle.order_machine.proofs.OwnOperations.{AreEffective-looks_same, AreEffective-push}
+use Rattle.events.specs.declared.answer.Reply.{Reply}
+use Rattle.events.specs.Locking.{locks_at, taken}
+use Rattle.events.specs.Answers.{plain, live_reply, reply_to, locked_or}
+use Rattle.events.specs.Calls.{txn_named}
+use Rattle.lock_laws.specs.Protected.{HasLocks, AreLocked, locks_of}
+use Rattle.lock_laws.specs.OrderedStates.{IsOrdered}
+use Rattle.lock_laws.specs.OwnOperations.{IsBuilt, AreEffective}
+use Rattle.lock_laws.proofs.ProtectedGrants.{AreExclusive-nil, AreExclusive-taken, AreExclusive-released, AreExclusive-alike, against-alike, Alike-taken}
+use Rattle.lock_laws.proofs.ProtectedStates.{IsOrdered-folded, LooksSame-foreign_folded}
+use Rattle.lock_laws.proofs.ProtectedCalls.{AreLocked-taken, AreLocked-released, AreLocked-alike, live_logged, live_locked}
+use Rattle.lock_laws.proofs.OwnOperations.{AreEffective-looks_same, AreEffective-push}
 use Rattle.txn_front.specs.Front.{Going, Fronted, nothing, txn_at, numbered, going_of, AreAlike, told, with_going, begun, operated, asked, called, logged, ended, IsOwn, IsOver}
 use Rattle.txn_front.specs.Index.{noted}
 use Rattle.txn_front.proofs.Entries.{look_at_inserted, look_beside_inserted, look_at_removed, look_beside_removed, rising-nil, rising_inserted, rising_removed}

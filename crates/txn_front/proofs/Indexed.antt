@@ -10,7 +10,7 @@ use Rattle.coll_model.specs.declared.op.Op.{Op}
 use Rattle.key_locks.specs.declared.lock_name.LockName.{LockName}
 use Rattle.key_locks.specs.Names.{is_name}
 use Rattle.key_locks.specs.Equal.{is_name_equivalence}
-use Rattle.order_machine.specs.OwnOperations.{item_of, newest, or_earlier}
+use Rattle.lock_laws.specs.OwnOperations.{item_of, newest, or_earlier}
 use Rattle.txn_front.specs.Index.{IsIndex}
 
 abbrev Places : Type 0

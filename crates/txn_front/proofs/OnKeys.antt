@@ -16,15 +16,16 @@ use Rattle.key_locks.specs.declared.lock_mode.LockMode.{LockMode}
 use Rattle.key_locks.specs.declared.lock_mode.LockMode.TheVariants.{Shared, Update, Exclusive}
 use Rattle.key_locks.specs.Grants.{Grant, conflict, granted, Alike}
 use Rattle.key_locks.proofs.Flat.{alike_answers}
-use Rattle.script_text.specs.declared.event.Call.{Call}
-use Rattle.script_text.specs.declared.event.Call.TheVariants.{Begin, Make, Get, GetForUpdate, Set, Add, Delete, Commit, Abort}
+use Rattle.events.specs.declared.call.Call.{Call}
+use Rattle.events.specs.declared.call.Call.TheVariants.{Begin, Make, Get, GetForUpdate, Set, Add, Delete, Commit, Abort}
 use Rattle.order_machine.specs.declared.observation.Observation.{Observation}
 use Rattle.order_machine.specs.declared.observation.Observation.TheVariants as says
-use Rattle.order_machine.specs.declared.reply.Reply.{Reply}
-use Rattle.order_machine.specs.Answers.{plain, found, added, deleted, live_reply, locked_or, get_reply, set_reply, add_reply, delete_reply}
-use Rattle.order_machine.specs.Locking.{Lock, locks_at, in_dictionary, on_key, against, taken}
-use Rattle.order_machine.specs.Protected.{kind_at, value_at, value_in}
-use Rattle.order_machine.proofs.ProtectedGrants.{Alike-taken}
+use Rattle.events.specs.declared.answer.Reply.{Reply}
+use Rattle.events.specs.Answers.{plain, found, added, deleted, live_reply, locked_or}
+use Rattle.order_machine.specs.Clients.{get_reply, set_reply, add_reply, delete_reply}
+use Rattle.events.specs.Locking.{Lock, locks_at, in_dictionary, on_key, against, taken}
+use Rattle.lock_laws.specs.Protected.{kind_at, value_at, value_in}
+use Rattle.lock_laws.proofs.ProtectedGrants.{Alike-taken}
 use Rattle.txn_front.specs.OnKey.{key_in, mode_of, refused, refusal, keyed}
 
 abbrev Grants : Type 0

@@ -4,10 +4,10 @@ use Rattle.coll_model.specs.declared.op.Op.{Op}
 use Rattle.coll_model.specs.declared.op.Op.TheVariants.{Make, Unmake, Put, Del, Push, Pop}
 use Rattle.coll_model.specs.Effect.{State, folded}
 use Rattle.key_locks.specs.declared.lock_name.LockName.TheVariants.{Key}
-use Rattle.order_machine.specs.OrderedStates.{IsOrdered}
-use Rattle.order_machine.specs.OwnOperations.{AreBuilt, AreEffective, newest}
-use Rattle.order_machine.specs.Protected.{value_at}
-use Rattle.order_machine.proofs.OwnOperations.{value_by, value_own}
+use Rattle.lock_laws.specs.OrderedStates.{IsOrdered}
+use Rattle.lock_laws.specs.OwnOperations.{AreBuilt, AreEffective, newest}
+use Rattle.lock_laws.specs.Protected.{value_at}
+use Rattle.lock_laws.proofs.OwnOperations.{value_by, value_own}
 
 pub value_from : (n k name key : List ℕ) (state : State) (ops : List Op) → n ≡ name → k ≡ key → IsOrdered state → AreBuilt ops → AreEffective state ops
     → (o : Option Op) → o ≡ newest (Key n k) ops → (value : Option (List ℕ)) → value ≡ value_by o (value_at name key state) → value ≡ value_at name key (folded state ops)

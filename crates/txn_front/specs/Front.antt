@@ -12,14 +12,15 @@ use Rattle.rc_base.specs.Ids.{is_epoch}
 use Rattle.coll_model.specs.declared.op.Op.{Op}
 use Rattle.coll_model.specs.Effect.{State, folded}
 use Rattle.key_locks.specs.Grants.{Grant, released, Alike}
-use Rattle.script_text.specs.declared.event.Call.{Call}
+use Rattle.events.specs.declared.call.Call.{Call}
 use Rattle.order_machine.specs.declared.observation.Observation.TheVariants as says
-use Rattle.order_machine.specs.declared.reply.Reply.{Reply}
-use Rattle.order_machine.specs.Locking.{locks_at, taken}
-use Rattle.order_machine.specs.Answers.{plain, txn_named, live_reply}
-use Rattle.order_machine.specs.Protected.{AreExclusive, AreLocked}
-use Rattle.order_machine.specs.OwnOperations.{AreBuilt, AreEffective}
-use Rattle.order_machine.specs.OrderedStates.{IsOrdered}
+use Rattle.events.specs.declared.answer.Reply.{Reply}
+use Rattle.events.specs.Locking.{locks_at, taken}
+use Rattle.events.specs.Answers.{plain, live_reply}
+use Rattle.events.specs.Calls.{txn_named}
+use Rattle.lock_laws.specs.Protected.{AreExclusive, AreLocked}
+use Rattle.lock_laws.specs.OwnOperations.{AreBuilt, AreEffective}
+use Rattle.lock_laws.specs.OrderedStates.{IsOrdered}
 
 -- ---- what goes on
 

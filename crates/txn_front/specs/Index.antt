@@ -4,7 +4,7 @@ use Rattle.std.specs.Map.{lookup}
 use Rattle.coll_model.specs.declared.op.Op.{Op}
 use Rattle.key_locks.specs.declared.lock_name.LockName.{LockName}
 use Rattle.key_locks.specs.Names.{is_name}
-use Rattle.order_machine.specs.OwnOperations as own
+use Rattle.lock_laws.specs.OwnOperations as own
 use Rattle.txn_front.specs.Front.{Going}
 
 -- with one operation more, or none

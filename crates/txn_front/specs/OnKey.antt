@@ -9,12 +9,12 @@ use Rattle.key_locks.specs.declared.lock_name.LockName.TheVariants.{Name, Key}
 use Rattle.key_locks.specs.declared.lock_mode.LockMode.{LockMode}
 use Rattle.key_locks.specs.declared.lock_mode.LockMode.TheVariants.{Shared, Update, Exclusive}
 use Rattle.key_locks.specs.Grants.{Grant, conflict, granted}
-use Rattle.script_text.specs.declared.event.Call.{Call}
-use Rattle.script_text.specs.declared.event.Call.TheVariants.{Get, GetForUpdate, Set, Add, Delete}
+use Rattle.events.specs.declared.call.Call.{Call}
+use Rattle.events.specs.declared.call.Call.TheVariants.{Get, GetForUpdate, Set, Add, Delete}
 use Rattle.order_machine.specs.declared.observation.Observation.{Observation}
 use Rattle.order_machine.specs.declared.observation.Observation.TheVariants as says
-use Rattle.order_machine.specs.declared.reply.Reply.{Reply}
-use Rattle.order_machine.specs.Answers.{plain, found, added, deleted}
+use Rattle.events.specs.declared.answer.Reply.{Reply}
+use Rattle.events.specs.Answers.{plain, found, added, deleted}
 
 -- the name and the key
 abbrev pub key_in : Call → Option (List ℕ × List ℕ)

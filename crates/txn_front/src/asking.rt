@@ -4,12 +4,12 @@ ghost use Rattle.coll_model.specs.Effect.{folded};
 ghost use Rattle.key_locks.specs.Grants.{Alike, conflict};
 ghost use Rattle.key_locks.specs.declared.lock_name.LockName.TheVariants as names;
 ghost use Rattle.order_machine.specs.Answers as answers;
-ghost use Rattle.order_machine.specs.Answers.{live_reply};
-ghost use Rattle.order_machine.specs.Locking.{locks_at, in_dictionary, taken};
-ghost use Rattle.order_machine.specs.OrderedStates.{IsOrdered};
-ghost use Rattle.order_machine.specs.OwnOperations.{AreBuilt, AreEffective};
-ghost use Rattle.order_machine.specs.Protected.{kind_at, value_at};
-ghost use Rattle.script_text.specs.declared.event.Call.TheVariants as CallSpec;
+ghost use Rattle.events.specs.Answers.{live_reply};
+ghost use Rattle.events.specs.Locking.{locks_at, in_dictionary, taken};
+ghost use Rattle.lock_laws.specs.OrderedStates.{IsOrdered};
+ghost use Rattle.lock_laws.specs.OwnOperations.{AreBuilt, AreEffective};
+ghost use Rattle.lock_laws.specs.Protected.{kind_at, value_at};
+ghost use Rattle.events.specs.declared.call.Call.TheVariants as CallSpec;
 ghost use Rattle.txn_front.specs.OnKey as spec;
 
 use crate::going::Going;
@@ -217,7 +217,7 @@ fn keyed(call: &Call, value: Option<&Bytes>) -> Result<Option<Reply>, NoMemory>
 }
 
 // The kind of the collection that the transaction sees under the name.
-#[tactic(auto, using(order_machine::proofs::OwnOperations::kind_own))]
+#[tactic(auto, using(lock_laws::proofs::OwnOperations::kind_own))]
 fn kind_seen(going: &Going, state: &State, name: &Name) -> Result<Option<Kind>, NoMemory>
     requires ordered { IsOrdered state.now }
     requires built { AreBuilt going.now.ops }

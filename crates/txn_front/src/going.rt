@@ -1,6 +1,6 @@
 ghost use Rattle.std.specs.Prelude.{◌≡◌, [], ◌∷◌, ◌++◌, IfOk, OnOk, OnErr, option_and_then};
 ghost use Rattle.std.specs.Option.{option_copied};
-ghost use Rattle.order_machine.specs.OwnOperations as own;
+ghost use Rattle.lock_laws.specs.OwnOperations as own;
 ghost use Rattle.txn_front.specs.Index.{noted};
 
 use coll_model::{Op, Ops};

@@ -9,14 +9,15 @@ use Rattle.rc_base.specs.Ids.{is_txn}
 use Rattle.rc_base.proofs.SameIds.{is_txn-true, is_txn_same, is_txn_equivalence}
 use Rattle.coll_model.specs.Effect.{State}
 use Rattle.key_locks.specs.Grants.{released}
-use Rattle.script_text.specs.declared.event.Event.TheVariants.{Client}
-use Rattle.script_text.specs.declared.event.Call.TheVariants.{Abort}
+use Rattle.events.specs.declared.event.Event.TheVariants.{Client}
+use Rattle.events.specs.declared.call.Call.TheVariants.{Abort}
 use Rattle.order_machine.specs.declared.observation.Observation.TheVariants as says
-use Rattle.order_machine.specs.Machine.{Machine, Txn, Noted, put_txn, put_grants}
-use Rattle.order_machine.specs.Answers.{plain}
-use Rattle.order_machine.specs.Rows.{asking, going_at}
+use Rattle.order_machine.specs.Machine.{Machine, Txn, put_txn, put_grants}
+use Rattle.events.specs.Calls.{CallRecord}
+use Rattle.events.specs.Answers.{plain}
+use Rattle.order_machine.specs.Transitions.{asking, going_at}
 use Rattle.order_machine.specs.Legal.{IsWhole, moved}
-use Rattle.order_machine.proofs.ProtectedGrants.{AreExclusive-released}
+use Rattle.lock_laws.proofs.ProtectedGrants.{AreExclusive-released}
 use Rattle.txn_front.specs.Front.{Fronted, Going, going_of, told}
 use Rattle.world.specs.Running.{running, state_of, Runs, RunsWith, IsKept}
 use Rattle.world.proofs.Answer.{answer_serves}
@@ -24,7 +25,7 @@ use Rattle.world.proofs.Asked.{going_told}
 use Rattle.world.proofs.Booted.{running_unrefused}
 use Rattle.world.proofs.Changed.{ChangesAt, at_own, at_other, kept_other, with_call}
 use Rattle.key_locks.proofs.Flat.{alike_released}
-use Rattle.order_machine.proofs.ProtectedCalls.{AreProtected-released}
+use Rattle.lock_laws.proofs.ProtectedCalls.{AreProtected-released}
 use Rattle.world.proofs.Quiet.{holds_behind}
 use Rattle.world.proofs.Told.{machine_of, IsKnown, known_of, answer_told}
 
@@ -35,7 +36,7 @@ Ends front new t = ChangesAt front new front.begins t None (released front.grant
 abbrev ended_of : Txn → Txn
 ended_of x = record x { live = false }
 
-abbrev done_call : TxnId → Noted
+abbrev done_call : TxnId → CallRecord
 done_call t = record { call = Abort t; answer = says.Done; op = None }
 
 each_aborted : (front new : Fronted) (shown : ℕ) (contents : State) (m : Machine) (h : Runs front shown contents m) (t : TxnId) (g : Going) (k : IsKnown front shown contents m h t g) → Ends front new t →

@@ -10,12 +10,12 @@ use Rattle.rc_base.specs.Ids.{is_epoch}
 use Rattle.config_rule.specs.declared.appointments.Appointed.{Appointed}
 use Rattle.config_rule.specs.Rule.{Known, broken_activation, after_activation, appointment_of}
 use Rattle.disk_model.specs.Disk.{Areas}
-use Rattle.script_text.specs.declared.event.Event.TheVariants.{Activate}
+use Rattle.events.specs.declared.event.Event.TheVariants.{Activate}
 use Rattle.order_machine.specs.declared.observation.Observation.{Observation}
 use Rattle.order_machine.specs.declared.observation.Observation.TheVariants as says
 use Rattle.order_machine.specs.Machine as machine
 use Rattle.order_machine.specs.Machine.{Machine, Appointment, known_of, has_role}
-use Rattle.order_machine.specs.Rows.{HoldsBehind, refusal, at_start, activating, activating_of, dropping, latest_primary}
+use Rattle.order_machine.specs.Transitions.{HoldsBehind, refusal, at_start, activating, activating_of, dropping, latest_primary}
 use Rattle.order_machine.specs.Legal.{IsWhole, moved}
 use Rattle.world.specs.declared.error.WorldError.{WorldError}
 use Rattle.world.specs.declared.error.WorldError.TheVariants as errors

@@ -7,18 +7,19 @@ use Rattle.coll_model.specs.declared.op.Op.{Op}
 use Rattle.coll_model.specs.declared.contents.Contents.{Contents}
 use Rattle.coll_model.specs.declared.contents.Contents.TheVariants.{Dict, Queue}
 use Rattle.coll_model.specs.Effect.{State, at_key}
-use Rattle.script_text.specs.declared.event.Event.TheVariants.{Client}
-use Rattle.script_text.specs.declared.event.Call.{Call}
-use Rattle.script_text.specs.declared.event.Call.TheVariants.{Begin, Make, Get, GetForUpdate, Set, Add, Delete, Commit, Abort}
+use Rattle.events.specs.declared.event.Event.TheVariants.{Client}
+use Rattle.events.specs.declared.call.Call.{Call}
+use Rattle.events.specs.declared.call.Call.TheVariants.{Begin, Make, Get, GetForUpdate, Set, Add, Delete, Commit, Abort}
 use Rattle.order_machine.specs.declared.observation.Observation.{Observation}
 use Rattle.order_machine.specs.declared.observation.Observation.TheVariants as says
-use Rattle.order_machine.specs.declared.reply.Reply.{Reply}
+use Rattle.events.specs.declared.answer.Reply.{Reply}
 use Rattle.order_machine.specs.Machine.{Machine}
 use Rattle.rc_base.specs.declared.ids.TxnId.{TxnId}
 use Rattle.key_locks.specs.Grants.{Grant}
-use Rattle.order_machine.specs.Locking.{locks_at, against}
-use Rattle.order_machine.specs.Answers.{answer, answered_at, reply_to, make_reply, get_reply, set_reply, add_reply, added, delete_reply, deleted, found, plain, locked_or, live_reply}
-use Rattle.order_machine.specs.Rows.{Position, May, refusal, opened, at_start, asking, after, answering, IsComplete, HoldsBehind}
+use Rattle.events.specs.Locking.{locks_at, against}
+use Rattle.order_machine.specs.Clients.{answer, answered_at, get_reply, set_reply, add_reply, delete_reply}
+use Rattle.events.specs.Answers.{reply_to, make_reply, added, deleted, found, plain, locked_or, live_reply}
+use Rattle.order_machine.specs.Transitions.{Position, May, refusal, opened, at_start, asking, after, answering, IsComplete, HoldsBehind}
 use Rattle.order_machine.specs.Legal.{IsWhole, moved}
 use Rattle.world.proofs.Served.{served_from}
 

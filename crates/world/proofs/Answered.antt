@@ -1,12 +1,12 @@
 -- Events that have one line, and change nothing but the count of events.
 use Rattle.std.proofs.Common.{◌≡◌, ◌∙◌, sym, ap, subst, refl, ℕ, ◌≤◌, true, false, List, [], ◌∷◌, Some, None, Result, Ok, Err, IfOk, OnOk, OnErr}
 use Rattle.disk_model.specs.Disk.{Areas}
-use Rattle.script_text.specs.declared.event.Event.{Event}
-use Rattle.script_text.specs.declared.event.Event.TheVariants.{Boot, Arm, Reboot, Inspect}
+use Rattle.events.specs.declared.event.Event.{Event}
+use Rattle.events.specs.declared.event.Event.TheVariants.{Boot, Arm, Reboot, Inspect}
 use Rattle.order_machine.specs.declared.observation.Observation.{Observation}
 use Rattle.order_machine.specs.declared.observation.Observation.TheVariants as says
 use Rattle.order_machine.specs.Machine.{Machine, empty_machine}
-use Rattle.order_machine.specs.Rows.{refusal, down_of}
+use Rattle.order_machine.specs.Transitions.{refusal, down_of}
 use Rattle.order_machine.specs.Legal.{IsWhole, moved}
 use Rattle.replica.specs.Open.{Open}
 use Rattle.world.specs.declared.error.WorldError.{WorldError}

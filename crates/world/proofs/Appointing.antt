@@ -11,12 +11,12 @@ use Rattle.coll_model.specs.Effect.{folded}
 use Rattle.disk_model.specs.Disk.{Areas}
 use Rattle.txn_table.specs.declared.committed.Committed.{Committed}
 use Rattle.log_store.specs.Log.{commits_in, last_epoch}
-use Rattle.script_text.specs.declared.event.Event.TheVariants.{Appoint}
+use Rattle.events.specs.declared.event.Event.TheVariants.{Appoint}
 use Rattle.order_machine.specs.declared.observation.Observation.{Observation}
 use Rattle.order_machine.specs.declared.observation.Observation.TheVariants as says
 use Rattle.order_machine.specs.Order.{Entry}
 use Rattle.order_machine.specs.Machine.{Machine, Txn, replica, without_role, closed, ended_at, put_role}
-use Rattle.order_machine.specs.Rows.{Position, HoldsBehind, refusal, opened, at_start, new_role}
+use Rattle.order_machine.specs.Transitions.{Position, HoldsBehind, refusal, opened, at_start, new_role}
 use Rattle.order_machine.specs.Legal.{IsWhole, moved}
 use Rattle.txn_front.specs.Front.{nothing}
 use Rattle.replica.specs.Open as opens

@@ -1,12 +1,12 @@
 -- The events that change nothing: a disk is armed, and what a replica shows is inspected.
 use Rattle.std.proofs.Common.{◌≡◌, ap, cond, ℕ, length, map, List, [], ◌∷◌, true, false, Option, Some, None, refl, ◌∙◌, sym, subst}
-use Rattle.script_text.specs.declared.event.Event.TheVariants.{Arm, Inspect}
+use Rattle.events.specs.declared.event.Event.TheVariants.{Arm, Inspect}
 use Rattle.order_machine.specs.declared.observation.Observation.{Observation}
 use Rattle.order_machine.specs.declared.observation.Observation.TheVariants as says
 use Rattle.order_machine.specs.Order.{state_at}
 use Rattle.order_machine.specs.Machine.{Machine, replica, order_of, is_booted}
 use Rattle.order_machine.specs.Contents.{rows_of}
-use Rattle.order_machine.specs.Rows.{Position, HoldsBehind, IsComplete, opened, once_booted}
+use Rattle.order_machine.specs.Transitions.{Position, HoldsBehind, IsComplete, opened, once_booted}
 use Rattle.order_machine.specs.Legal.{Lines, behind, IsWhole, moved}
 use Rattle.world.proofs.Served.{served_from}
 

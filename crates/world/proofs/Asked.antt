@@ -13,24 +13,26 @@ use Rattle.coll_model.specs.declared.op.Op.{Op}
 use Rattle.coll_model.specs.Effect.{State, folded}
 use Rattle.key_locks.specs.Grants.{Grant}
 use Rattle.key_locks.specs.Grants as key_locks
-use Rattle.script_text.specs.declared.event.Event.TheVariants.{Client}
-use Rattle.script_text.specs.declared.event.Call.{Call}
-use Rattle.script_text.specs.declared.event.Call.TheVariants.{Begin, Make, Get, GetForUpdate, Set, Add, Delete, Commit, Abort}
+use Rattle.events.specs.declared.event.Event.TheVariants.{Client}
+use Rattle.events.specs.declared.call.Call.{Call}
+use Rattle.events.specs.declared.call.Call.TheVariants.{Begin, Make, Get, GetForUpdate, Set, Add, Delete, Commit, Abort}
 use Rattle.order_machine.specs.declared.observation.Observation.TheVariants as says
-use Rattle.order_machine.specs.declared.reply.Reply.{Reply}
-use Rattle.order_machine.specs.Machine.{Machine, Txn, Noted, put_txn, put_grants, grants_of, ops_of}
-use Rattle.order_machine.specs.Locking.{locks_at, taken}
-use Rattle.order_machine.specs.Answers.{plain, noted, txn_named, live_reply, seen, begun_by}
-use Rattle.order_machine.specs.Protected.{AreProtected, IsCallProtected}
-use Rattle.order_machine.specs.Rows.{asking, going_at}
+use Rattle.events.specs.declared.answer.Reply.{Reply}
+use Rattle.order_machine.specs.Machine.{Machine, Txn, put_txn, put_grants, grants_of, ops_of}
+use Rattle.events.specs.Calls.{CallRecord, txn_named}
+use Rattle.events.specs.Locking.{locks_at, taken}
+use Rattle.events.specs.Answers.{plain, live_reply}
+use Rattle.order_machine.specs.Clients.{noted, seen, begun_by}
+use Rattle.lock_laws.specs.Protected.{AreProtected, IsCallProtected}
+use Rattle.order_machine.specs.Transitions.{asking, going_at}
 use Rattle.order_machine.specs.Legal.{IsWhole, moved}
-use Rattle.order_machine.proofs.ProtectedGrants.{Alike-taken, AreExclusive-taken}
+use Rattle.lock_laws.proofs.ProtectedGrants.{Alike-taken, AreExclusive-taken}
 use Rattle.txn_front.specs.Front.{Fronted, Going, going_of, told, txn_at}
 use Rattle.world.specs.Running.{running, state_of, Runs, RunsWith, IsKept}
 use Rattle.world.proofs.Answer.{answer_serves, live_reply_is}
 use Rattle.world.proofs.Booted.{running_unrefused}
 use Rattle.world.proofs.Changed.{ChangesAt, at_own, at_other, kept_other, with_call}
-use Rattle.order_machine.proofs.ProtectedCalls.{AreProtected-taken, AreProtected-push, IsCallProtected-live}
+use Rattle.lock_laws.proofs.ProtectedCalls.{AreProtected-taken, AreProtected-push, IsCallProtected-live}
 use Rattle.world.proofs.Quiet.{holds_behind}
 use Rattle.world.proofs.Told.{machine_of, IsKnown, known_of, answer_told, live_reply_alike}
 
@@ -90,16 +92,16 @@ collection_asking m (Abort u) t x in_one named is = absurd in_one
 
 -- ---- the machine behind it
 
-abbrev noted_call : Call → Reply → Noted
+abbrev noted_call : Call → Reply → CallRecord
 noted_call call reply = record { call = call; answer = reply.answer; op = reply.op }
 
-one_op : (c : Noted) → filter_map (λ d. d.op) (c ∷ []) ≡ cons_option c.op []
+one_op : (c : CallRecord) → filter_map (λ d. d.op) (c ∷ []) ≡ cons_option c.op []
 one_op c = by c.op
   where
     by : (o : Option Op) → cons_option o [] ≡ cons_option o []
     by o = refl
 
-ops_more : (x : Txn) (c : Noted) → ops_of (with_call x c) ≡ ops_of x ++ cons_option c.op []
+ops_more : (x : Txn) (c : CallRecord) → ops_of (with_call x c) ≡ ops_of x ++ cons_option c.op []
 ops_more x c = filter_map-append (λ d. d.op) x.calls (c ∷ []) ∙ ap (λ ops. ops_of x ++ ops) (one_op c)
 
 -- the machine's grants

@@ -9,15 +9,14 @@ use Rattle.rc_base.specs.declared.ids.TxnId.{TxnId}
 use Rattle.rc_base.specs.Ids.{is_txn, epoch_le}
 use Rattle.rc_base.proofs.SameIds.{is_txn-true, is_txn_same}
 use Rattle.coll_model.specs.Effect.{State}
-use Rattle.script_text.specs.declared.event.Call.{Call}
-use Rattle.script_text.specs.declared.event.Call.TheVariants.{Begin, Make, Get, GetForUpdate, Set, Add, Delete, Commit, Abort}
-use Rattle.order_machine.specs.Machine.{Machine, Txn, ended_at, put_txn, put_grants}
-use Rattle.order_machine.specs.Rows.{asking, asking_locks, going_at}
-use Rattle.order_machine.specs.Answers.{seen}
-use Rattle.order_machine.specs.Locking.{locks_at, taken}
-use Rattle.order_machine.specs.Machine.{grants_of}
-use Rattle.order_machine.proofs.Kept.{known_before}
-use Rattle.order_machine.proofs.ProtectedCalls.{Replays-from_protected}
+use Rattle.events.specs.declared.call.Call.{Call}
+use Rattle.events.specs.declared.call.Call.TheVariants.{Begin, Make, Get, GetForUpdate, Set, Add, Delete, Commit, Abort}
+use Rattle.order_machine.specs.Machine.{Machine, Txn, ended_at, put_txn, put_grants, grants_of}
+use Rattle.order_machine.specs.Transitions.{asking, asking_locks, going_at}
+use Rattle.order_machine.specs.Clients.{seen}
+use Rattle.events.specs.Locking.{locks_at, taken}
+use Rattle.order_machine.proofs.Machines.{known_before}
+use Rattle.lock_laws.proofs.ProtectedCalls.{Replays-from_protected}
 use Rattle.key_locks.specs.Grants.{released}
 use Rattle.replica.specs.Open.{Open}
 use Rattle.replica.specs.declared.step.StepEvent.TheVariants as steps

@@ -2,15 +2,15 @@
 use Rattle.std.proofs.Common.{◌≡◌, zero, suc, List, [], ◌∷◌, ◌++◌, true, false, refl, sym, ap, arith, inl, inr}
 use Rattle.std.proofs.lemmas.Bool.{false≢true}
 use Rattle.std.proofs.lemmas.Option.{none-some}
-use Rattle.script_text.specs.declared.event.Event.{Event}
-use Rattle.script_text.specs.declared.event.Event.TheVariants.{Boot}
+use Rattle.events.specs.declared.event.Event.{Event}
+use Rattle.events.specs.declared.event.Event.TheVariants.{Boot}
 use Rattle.order_machine.specs.declared.observation.Observation.{Observation}
 use Rattle.order_machine.specs.declared.observation.Observation.TheVariants as says
 use Rattle.order_machine.specs.Machine.{empty_machine}
-use Rattle.order_machine.specs.Rows.{Position, May, HoldsBehind, opened, first_epoch, new_role}
+use Rattle.order_machine.specs.Transitions.{Position, May, HoldsBehind, opened, first_epoch, new_role}
 use Rattle.order_machine.specs.Legal.{behind, IsWhole, moved}
-use Rattle.order_machine.proofs.Behind.{not_alone}
-use Rattle.order_machine.proofs.Kept.{never_put}
+use Rattle.order_machine.proofs.Machines.{not_alone}
+use Rattle.order_machine.proofs.Machines.{never_put}
 use Rattle.world.specs.Standing.{first_course, serving, shut, standing}
 use Rattle.world.proofs.WithoutRole.{holds_without_role}
 

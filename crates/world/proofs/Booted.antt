@@ -2,13 +2,13 @@
 use Rattle.std.proofs.Common.{◌≡◌, ap, suc, cond, not, ◌==◌, ℕ, length, List, true, Option, Some, None, arith}
 use Rattle.std.proofs.lemmas.Bool.Decides.{nat_tests}
 use Rattle.rc_base.specs.declared.ids.TxnId.{TxnId}
-use Rattle.script_text.specs.declared.event.Event.TheVariants.{Client}
-use Rattle.script_text.specs.declared.event.Call.{Call}
+use Rattle.events.specs.declared.event.Event.TheVariants.{Client}
+use Rattle.events.specs.declared.call.Call.{Call}
 use Rattle.order_machine.specs.declared.observation.Observation.{Observation}
 use Rattle.order_machine.specs.declared.observation.Observation.TheVariants as says
 use Rattle.order_machine.specs.Order.{Entry}
 use Rattle.order_machine.specs.Machine.{Machine, Replica, Txn, is_booted}
-use Rattle.order_machine.specs.Rows.{refusal, once_booted}
+use Rattle.order_machine.specs.Transitions.{refusal, once_booted}
 use Rattle.coll_model.specs.Effect.{State}
 use Rattle.txn_front.specs.Front.{Fronted}
 use Rattle.world.specs.Running.{running, Runs}

@@ -18,12 +18,12 @@ use Rattle.log_store.specs.Fold.{no_log}
 use Rattle.log_store.specs.Growth.{new_log}
 use Rattle.log_store.specs.Log.{commits_in}
 use Rattle.log_store.specs.Store.{KeepsOrBegins}
-use Rattle.script_text.specs.declared.event.Event.TheVariants.{Boot}
+use Rattle.events.specs.declared.event.Event.TheVariants.{Boot}
 use Rattle.order_machine.specs.declared.observation.Observation.{Observation}
 use Rattle.order_machine.specs.declared.observation.Observation.TheVariants as says
 use Rattle.order_machine.specs.Machine.{Machine, empty_machine}
 use Rattle.order_machine.specs.Legal.{IsWhole, moved}
-use Rattle.order_machine.specs.Rows.{first_epoch}
+use Rattle.order_machine.specs.Transitions.{first_epoch}
 use Rattle.txn_front.specs.Front.{Fronted, nothing, going_of}
 use Rattle.replica.specs.declared.role.Role.TheVariants.{Other}
 use Rattle.replica.specs.declared.step.StepEvent.{StepEvent}

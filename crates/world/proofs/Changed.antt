@@ -5,10 +5,10 @@ use Rattle.rc_base.specs.Ids.{is_txn}
 use Rattle.rc_base.proofs.SameIds.{is_txn_same}
 use Rattle.key_locks.specs.Grants.{Grant, Alike}
 use Rattle.order_machine.specs.Order.{Entry}
-use Rattle.order_machine.specs.Machine.{Txn, Noted}
-use Rattle.order_machine.specs.Protected.{AreProtected}
+use Rattle.order_machine.specs.Machine.{Txn, Machine}
+use Rattle.events.specs.Calls.{CallRecord}
+use Rattle.lock_laws.specs.Protected.{AreProtected}
 use Rattle.coll_model.specs.Effect.{State}
-use Rattle.order_machine.specs.Machine.{Machine}
 use Rattle.txn_front.specs.Front.{Fronted, Going, going_of, AreAlike}
 use Rattle.world.specs.Running.{IsKept, state_of, running, Runs, RunsWith}
 use Rattle.world.specs.Standing.{Course}
@@ -46,7 +46,7 @@ kept_other old new begins t then given grants now entries acknowledged course c 
     }
 
 -- the call with its answer
-abbrev pub with_call : Txn → Noted → Txn
+abbrev pub with_call : Txn → CallRecord → Txn
 with_call x c = record x { calls = x.calls ++ c ∷ [] }
 
 -- the machine runs as well over a front that is alike

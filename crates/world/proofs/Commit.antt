@@ -11,20 +11,21 @@ use Rattle.std.proofs.lemmas.Option.{none-some, same_Some}
 use Rattle.std.proofs.Math.Bool.{or-false, or-true}
 use Rattle.rc_base.specs.declared.ids.TxnId.{TxnId}
 use Rattle.coll_model.specs.Effect.{State, effect, folded}
-use Rattle.script_text.specs.declared.event.Event.TheVariants.{Client}
-use Rattle.script_text.specs.declared.event.Call.TheVariants.{Commit}
+use Rattle.events.specs.declared.event.Event.TheVariants.{Client}
+use Rattle.events.specs.declared.call.Call.TheVariants.{Commit}
 use Rattle.order_machine.specs.declared.observation.Observation.{Observation}
 use Rattle.order_machine.specs.declared.observation.Observation.TheVariants as says
 use Rattle.rc_base.specs.Ids.{is_txn, is_epoch, epoch_le}
 use Rattle.order_machine.specs.Order.{Entry, holds, before}
 use Rattle.order_machine.specs.Machine.{Machine, Txn, Role, is_pending, is_shown, role_of, put_txn, ops_of, ended_at}
-use Rattle.order_machine.specs.Answers.{answer, Replays}
-use Rattle.order_machine.specs.Rows.{Position, May, opened, asking, going_at, at_start, after}
+use Rattle.order_machine.specs.Clients.{answer}
+use Rattle.events.specs.Replay.{Replays}
+use Rattle.order_machine.specs.Transitions.{Position, May, opened, asking, going_at, at_start, after}
 use Rattle.order_machine.specs.Legal.{IsWhole, moved}
 use Rattle.rc_base.proofs.SameIds.{is_txn-true, is_txn_same, is_epoch-true, is_epoch_same, is_txn_equivalence}
 use Rattle.key_locks.specs.Grants.{Grant, released}
-use Rattle.order_machine.specs.Protected.{AreProtected}
-use Rattle.order_machine.proofs.ProtectedGrants.{AreExclusive-released}
+use Rattle.lock_laws.specs.Protected.{AreProtected}
+use Rattle.lock_laws.proofs.ProtectedGrants.{AreExclusive-released}
 use Rattle.txn_front.specs.Front.{Fronted, Going, going_of}
 use Rattle.world.specs.Running.{running, state_of, Runs, RunsWith, IsKept}
 use Rattle.world.specs.Course.{IsCourse}
@@ -36,8 +37,8 @@ use Rattle.world.proofs.Asked.{going_told}
 use Rattle.world.proofs.Booted.{running_unrefused}
 use Rattle.world.proofs.Changed.{at_own, at_other}
 use Rattle.key_locks.proofs.Flat.{alike_released}
-use Rattle.order_machine.proofs.ProtectedCalls.{AreProtected-released, AreProtected-behind_commit, Replays-from_protected}
-use Rattle.order_machine.proofs.ProtectedStates.{IsOrdered-nil, IsOrdered-folded}
+use Rattle.lock_laws.proofs.ProtectedCalls.{AreProtected-released, AreProtected-behind_commit, Replays-from_protected}
+use Rattle.lock_laws.proofs.ProtectedStates.{IsOrdered-nil, IsOrdered-folded}
 use Rattle.world.proofs.Past.{past_of_runs}
 use Rattle.world.proofs.Told.{machine_of, IsKnown, known_of, answer_told, all_taken, state_is}
 use Rattle.world.proofs.WithoutRole.{holds_without_role}

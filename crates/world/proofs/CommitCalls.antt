@@ -10,17 +10,18 @@ use Rattle.disk_model.specs.Disk.{Areas}
 use Rattle.txn_table.specs.declared.committed.Committed.{Committed}
 use Rattle.log_store.specs.declared.kept.Kept.{Kept as Log}
 use Rattle.log_store.specs.Log.{commits_in}
-use Rattle.script_text.specs.declared.event.Event.TheVariants.{Client}
-use Rattle.script_text.specs.declared.event.Call.{Call}
-use Rattle.script_text.specs.declared.event.Call.TheVariants.{Begin, Make, Get, GetForUpdate, Set, Add, Delete, Commit, Abort}
+use Rattle.events.specs.declared.event.Event.TheVariants.{Client}
+use Rattle.events.specs.declared.call.Call.{Call}
+use Rattle.events.specs.declared.call.Call.TheVariants.{Begin, Make, Get, GetForUpdate, Set, Add, Delete, Commit, Abort}
 use Rattle.order_machine.specs.declared.observation.Observation.{Observation}
 use Rattle.order_machine.specs.declared.observation.Observation.TheVariants as says
-use Rattle.order_machine.specs.declared.reply.Reply.{Reply}
+use Rattle.events.specs.declared.answer.Reply.{Reply}
 use Rattle.order_machine.specs.Order.{Entry}
 use Rattle.order_machine.specs.Machine.{Machine}
 use Rattle.key_locks.specs.Grants.{Grant}
-use Rattle.order_machine.specs.Locking.{locks_at, against}
-use Rattle.order_machine.specs.Answers.{plain, reply_to, live_reply, locked_or, txn_named}
+use Rattle.events.specs.Locking.{locks_at, against}
+use Rattle.events.specs.Answers.{plain, reply_to, live_reply, locked_or}
+use Rattle.events.specs.Calls.{txn_named}
 use Rattle.order_machine.specs.Legal.{moved}
 use Rattle.replica.specs.declared.role.Role.{Role}
 use Rattle.replica.specs.declared.role.Role.TheVariants.{Other, Primary}

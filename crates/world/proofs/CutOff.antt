@@ -13,17 +13,19 @@ use Rattle.disk_model.specs.Disk.{Areas, Each}
 use Rattle.log_store.specs.declared.kept.Kept.{Kept as Log}
 use Rattle.log_store.specs.Durable.{durable, StandForOneOf}
 use Rattle.log_store.specs.Log.{commits_in}
-use Rattle.script_text.specs.declared.event.Event.TheVariants.{Client}
-use Rattle.script_text.specs.declared.event.Call.{Call}
-use Rattle.script_text.specs.declared.event.Call.TheVariants.{Begin, Make, Get, GetForUpdate, Set, Add, Delete, Commit, Abort}
+use Rattle.events.specs.declared.event.Event.TheVariants.{Client}
+use Rattle.events.specs.declared.call.Call.{Call}
+use Rattle.events.specs.declared.call.Call.TheVariants.{Begin, Make, Get, GetForUpdate, Set, Add, Delete, Commit, Abort}
 use Rattle.order_machine.specs.declared.observation.Observation.{Observation}
 use Rattle.order_machine.specs.declared.observation.Observation.TheVariants as says
-use Rattle.order_machine.specs.declared.reply.Reply.{Reply}
+use Rattle.events.specs.declared.answer.Reply.{Reply}
 use Rattle.order_machine.specs.Order.{Entry}
 use Rattle.coll_model.specs.Effect.{State}
 use Rattle.order_machine.specs.Machine.{Machine, Txn, ended_at, put_txn, put_grants, ops_of}
-use Rattle.order_machine.specs.Answers.{plain, answer, txn_named}
-use Rattle.order_machine.specs.Rows.{asking, going_at, logs, is_ok, ends_logged}
+use Rattle.events.specs.Answers.{plain}
+use Rattle.order_machine.specs.Clients.{answer}
+use Rattle.events.specs.Calls.{txn_named}
+use Rattle.order_machine.specs.Transitions.{asking, going_at, logs, is_ok, ends_logged}
 use Rattle.order_machine.specs.Legal.{IsWhole, moved}
 use Rattle.replica.specs.declared.role.Role.{Role}
 use Rattle.replica.specs.declared.role.Role.TheVariants.{Other, Primary}

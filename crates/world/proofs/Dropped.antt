@@ -10,7 +10,7 @@ use Rattle.disk_model.specs.Disk.{Areas}
 use Rattle.log_store.specs.declared.kept.Kept.{Kept as Log}
 use Rattle.order_machine.specs.Order.{Entry}
 use Rattle.order_machine.specs.Machine.{Machine, Appointment, Txn}
-use Rattle.order_machine.specs.Rows.{HoldsBehind, dropping}
+use Rattle.order_machine.specs.Transitions.{HoldsBehind, dropping}
 use Rattle.rc_base.specs.declared.ids.TxnId.{TxnId}
 use Rattle.txn_front.specs.Front.{Fronted}
 use Rattle.replica.specs.declared.role.Role.{Role}

@@ -9,13 +9,15 @@ use Rattle.rc_base.specs.declared.ids.TxnId.{TxnId}
 use Rattle.rc_base.specs.Ids.{is_txn}
 use Rattle.rc_base.proofs.SameIds.{is_txn-true}
 use Rattle.coll_model.specs.Effect.{State}
-use Rattle.script_text.specs.declared.event.Event.TheVariants.{Client}
-use Rattle.script_text.specs.declared.event.Call.{Call}
-use Rattle.script_text.specs.declared.event.Call.TheVariants.{Begin, Make, Get, GetForUpdate, Set, Add, Delete, Commit, Abort}
+use Rattle.events.specs.declared.event.Event.TheVariants.{Client}
+use Rattle.events.specs.declared.call.Call.{Call}
+use Rattle.events.specs.declared.call.Call.TheVariants.{Begin, Make, Get, GetForUpdate, Set, Add, Delete, Commit, Abort}
 use Rattle.order_machine.specs.declared.observation.Observation.TheVariants as says
-use Rattle.order_machine.specs.Machine.{Machine, Txn, Noted, put_txn}
-use Rattle.order_machine.specs.Answers.{plain, noted, txn_named}
-use Rattle.order_machine.specs.Rows.{asking, going_at}
+use Rattle.order_machine.specs.Machine.{Machine, Txn, put_txn}
+use Rattle.events.specs.Calls.{CallRecord, txn_named}
+use Rattle.events.specs.Answers.{plain}
+use Rattle.order_machine.specs.Clients.{noted}
+use Rattle.order_machine.specs.Transitions.{asking, going_at}
 use Rattle.order_machine.specs.Legal.{IsWhole, moved}
 use Rattle.txn_front.specs.Front.{Fronted, Going, going_of, told}
 use Rattle.world.specs.Running.{Runs, RunsWith, IsKept}
@@ -26,11 +28,11 @@ use Rattle.world.proofs.Quiet.{holds_behind, settled}
 use Rattle.world.proofs.Told.{machine_of, not_live, answer_told}
 
 -- the call with its answer
-abbrev pub ended_call : Call → TxnId → Noted
+abbrev pub ended_call : Call → TxnId → CallRecord
 ended_call call t = record { call = call; answer = says.Ended t; op = None }
 
 -- a known transaction with one call more, which doesn't go on
-each_noted : (front : Fronted) (shown : ℕ) (contents : State) (m : Machine) (h : Runs front shown contents m) (t : TxnId) (x : Txn) (c : Noted) → lookup (is_txn t) h.txns ≡ Some x → going_of front t ≡ None →
+each_noted : (front : Fronted) (shown : ℕ) (contents : State) (m : Machine) (h : Runs front shown contents m) (t : TxnId) (x : Txn) (c : CallRecord) → lookup (is_txn t) h.txns ≡ Some x → going_of front t ≡ None →
     (u : TxnId) (y : Txn) (b : Bool) → is_txn u t ≡ b → cond b (Some (with_call x c)) (lookup (is_txn u) h.txns) ≡ Some y → IsKept h.course front h.grants h.entries h.acknowledged u y
 each_noted front shown contents m h t x c known none u y true same e =
     let k = h.each t x known in
@@ -51,7 +53,7 @@ each_noted front shown contents m h t x c known none u y true same e =
     }))
 each_noted front shown contents m h t x c known none u y false other e = h.each u y e
 
-noted_runs : (front : Fronted) (shown : ℕ) (contents : State) (m : Machine) (t : TxnId) (c : Noted) (h : Runs front shown contents m) → going_of front t ≡ None →
+noted_runs : (front : Fronted) (shown : ℕ) (contents : State) (m : Machine) (t : TxnId) (c : CallRecord) (h : Runs front shown contents m) → going_of front t ≡ None →
     (o : Option Txn) → lookup (is_txn t) h.txns ≡ o → RunsWith h.entries h.course front shown contents (option_map_or (λ y. put_txn (machine_of h) t (with_call y c)) o (machine_of h))
 unfolding settled
 noted_runs front shown contents m t c h none None e = (settled front shown contents m h, (refl, refl))

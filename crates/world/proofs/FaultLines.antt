@@ -5,20 +5,20 @@ use Rattle.std.specs.Option.{option_map_or}
 use Rattle.std.specs.List.{list_any}
 use Rattle.std.proofs.lemmas.Bool.{or_right, cond-false, le-leb}
 use Rattle.rc_base.specs.declared.ids.TxnId.{TxnId}
-use Rattle.script_text.specs.declared.event.Event.{Event}
-use Rattle.script_text.specs.declared.event.Event.TheVariants.{Boot, Client, Arm, Crash, Reboot, Inspect, Survey, Appoint, Activate}
-use Rattle.script_text.specs.declared.event.Call.{Call}
-use Rattle.script_text.specs.declared.event.Call.TheVariants.{Begin, Make, Get, GetForUpdate, Set, Add, Delete, Commit, Abort}
+use Rattle.events.specs.declared.event.Event.{Event}
+use Rattle.events.specs.declared.event.Event.TheVariants.{Boot, Client, Arm, Crash, Reboot, Inspect, Survey, Appoint, Activate}
+use Rattle.events.specs.declared.call.Call.{Call}
+use Rattle.events.specs.declared.call.Call.TheVariants.{Begin, Make, Get, GetForUpdate, Set, Add, Delete, Commit, Abort}
 use Rattle.order_machine.specs.declared.observation.Observation.{Observation}
 use Rattle.order_machine.specs.declared.observation.Observation.TheVariants as says
 use Rattle.order_machine.specs.Order.{Entry}
 use Rattle.order_machine.specs.Machine.{Machine, Txn, replica, closed, ended_at, never_opened, put_role, put_txn, put_grants}
 use Rattle.key_locks.specs.Grants.{Grant, released}
-use Rattle.order_machine.specs.Locking.{locks_at, taken}
-use Rattle.order_machine.specs.Answers.{answer, seen}
-use Rattle.order_machine.specs.Rows.{Position, HoldsBehind, IsComplete, May, refusal, opened, at_start, asking, asking_locks, going_at, after, showing, logs, failed, is_boot, has_answer, with_first_role, new_role, first_epoch}
+use Rattle.events.specs.Locking.{locks_at, taken}
+use Rattle.order_machine.specs.Clients.{answer, seen}
+use Rattle.order_machine.specs.Transitions.{Position, HoldsBehind, IsComplete, May, refusal, opened, at_start, asking, asking_locks, going_at, after, showing, logs, failed, is_boot, has_answer, with_first_role, new_role, first_epoch}
 use Rattle.order_machine.specs.Legal.{Lines, behind, IsServed, IsWhole, moved}
-use Rattle.order_machine.proofs.Lists.{at_written}
+use Rattle.events.proofs.Lists.{at_written}
 use Rattle.world.specs.Standing.{Course, serving, shut, standing}
 use Rattle.world.proofs.Booted.{call_unrefused}
 use Rattle.world.proofs.Served.{served_from}

@@ -10,12 +10,13 @@ use Rattle.rc_base.specs.declared.ids.TxnId.{TxnId}
 use Rattle.disk_model.specs.Disk.{Areas}
 use Rattle.log_store.specs.declared.kept.Kept.{Kept as Log}
 use Rattle.txn_table.specs.declared.committed.Committed.{Committed}
-use Rattle.script_text.specs.declared.event.Call.{Call}
+use Rattle.events.specs.declared.call.Call.{Call}
 use Rattle.order_machine.specs.declared.observation.Observation.{Observation}
 use Rattle.order_machine.specs.declared.observation.Observation.TheVariants as says
-use Rattle.order_machine.specs.declared.reply.Reply.{Reply}
+use Rattle.events.specs.declared.answer.Reply.{Reply}
 use Rattle.coll_model.specs.Effect.{folded}
-use Rattle.order_machine.specs.Answers.{plain, live_reply, txn_named}
+use Rattle.events.specs.Answers.{plain, live_reply}
+use Rattle.events.specs.Calls.{txn_named}
 use Rattle.txn_front.specs.Front as front
 use Rattle.txn_front.specs.Front.{Going, going_of, txn_at}
 use Rattle.replica.specs.declared.step.StepEvent.TheVariants as steps

@@ -14,8 +14,9 @@ use Rattle.std.specs.Option.{option_map_or}
 use Rattle.rc_base.specs.Ids.{is_txn}
 use Rattle.rc_base.proofs.SameIds.{is_txn-true, is_txn_equivalence}
 use Rattle.txn_front.proofs.Fronts.{going_of-begun, going_of-begun_other, going_of-logged, going_of-logged_other, going_of-ended, going_of-ended_other, going_of-called, going_of-called_other, told_live, called_live}
-use Rattle.script_text.specs.declared.event.Call.{Call}
-use Rattle.order_machine.specs.Answers.{txn_named, live_reply}
+use Rattle.events.specs.declared.call.Call.{Call}
+use Rattle.events.specs.Calls.{txn_named}
+use Rattle.events.specs.Answers.{live_reply}
 use Rattle.txn_front.specs.Index as index
 use Rattle.txn_front.specs.Front.{Fronted, Going, txn_at, going_of, AreAlike, IsOver, told, with_going, begun, called, operated, ended, logged}
 use Rattle.replica.specs.Step.{noted}

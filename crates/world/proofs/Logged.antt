@@ -5,8 +5,8 @@ use Rattle.rc_base.specs.declared.ids.Epoch.{Epoch}
 use Rattle.rc_base.specs.Ids.{epoch_lt, epoch_le}
 use Rattle.log_store.specs.declared.kept.Kept.{Kept as Log}
 use Rattle.log_store.specs.Epochs.{later}
-use Rattle.script_text.specs.declared.event.Call.{Call}
-use Rattle.script_text.specs.declared.event.Call.TheVariants.{Begin, Make, Get, GetForUpdate, Set, Add, Delete, Commit, Abort}
+use Rattle.events.specs.declared.call.Call.{Call}
+use Rattle.events.specs.declared.call.Call.TheVariants.{Begin, Make, Get, GetForUpdate, Set, Add, Delete, Commit, Abort}
 use Rattle.replica.specs.Open.{Open, AgreesWith}
 use Rattle.replica.specs.Step.{lengthened, answered, called, logged_by, is_active}
 use Rattle.txn_front.specs.Front.{Going, going_of}

@@ -13,9 +13,11 @@ use Rattle.coll_model.specs.declared.op.Op.{Op}
 use Rattle.coll_model.specs.Effect.{State, folded}
 use Rattle.txn_table.specs.declared.committed.Committed.{Committed}
 use Rattle.order_machine.specs.Order.{Entry}
-use Rattle.order_machine.specs.Machine.{Machine, Txn, Noted, ended_at, ops_of}
-use Rattle.order_machine.specs.Answers.{Replays, is_replayed, reply_at}
-use Rattle.order_machine.proofs.Kept.{known_before, lookup_ended}
+use Rattle.order_machine.specs.Machine.{Machine, Txn, ended_at, ops_of}
+use Rattle.events.specs.Calls.{CallRecord}
+use Rattle.events.specs.Replay.{Replays, is_replayed}
+use Rattle.events.specs.Answers.{reply_at}
+use Rattle.order_machine.proofs.Machines.{known_before, lookup_ended}
 use Rattle.txn_front.specs.Front.{Fronted}
 use Rattle.world.specs.Course.{IsPast, ArePast, MayFollow}
 use Rattle.world.specs.Running.{Runs, state_of}
@@ -83,11 +85,11 @@ follow_ended entries txns more f = follow_found entries txns (ended_at 0 txns) m
     replays x state r = either (λ y. Replays state y.calls) (x.home == 0) (record x { live = false }) x r r
 
 -- a call that was refused has no part in a replay
-pub Replays-refused : (state : State) (calls : List Noted) (c : Noted) → is_replayed c ≡ false → Replays state calls → Replays state (calls ++ c ∷ [])
+pub Replays-refused : (state : State) (calls : List CallRecord) (c : CallRecord) → is_replayed c ≡ false → Replays state calls → Replays state (calls ++ c ∷ [])
 Replays-refused state [] c off r = (subst (λ b. MatchBool b (reply_at state c.call ≡ Some (record { answer = c.answer; op = c.op })) (Unit {0})) (sym off) tt, tt)
 Replays-refused state (d ∷ calls) c off r = (r.0, Replays-refused (folded state (cons_option d.op [])) calls c off r.1)
 
-pub follow_noted : (entries : List Entry) (txns : List (TxnId × Txn)) (t : TxnId) (x : Txn) (c : Noted) (more : List Committed) → lookup (is_txn t) txns ≡ Some x → is_replayed c ≡ false → c.op ≡ None → MayFollow entries txns more → MayFollow entries ((t, with_call x c) ∷ txns) more
+pub follow_noted : (entries : List Entry) (txns : List (TxnId × Txn)) (t : TxnId) (x : Txn) (c : CallRecord) (more : List Committed) → lookup (is_txn t) txns ≡ Some x → is_replayed c ≡ false → c.op ≡ None → MayFollow entries txns more → MayFollow entries ((t, with_call x c) ∷ txns) more
 follow_noted entries txns t x c more known off no_op f = follow_found entries txns ((t, with_call x c) ∷ txns) more (λ u y e. by u y e (is_txn u t) refl) f
   where
     none : (o : Option Op) → o ≡ None → cons_option o [] ≡ []
@@ -102,7 +104,7 @@ follow_noted entries txns t x c more known off no_op f = follow_found entries tx
         (with_call x c, refl, ap (λ (v : Txn). v.asked) x_is, ops ∙ ap ops_of x_is, λ state r. Replays-refused state x.calls c off (subst (λ (v : Txn). Replays state v.calls) (sym x_is) r))
     by u y e false other = (y, e, refl, refl, λ state r. r)
 
-pub past_noted : (course : Course) (entries : List Entry) (acknowledged : List TxnId) (txns : List (TxnId × Txn)) (t : TxnId) (x : Txn) (c : Noted) → lookup (is_txn t) txns ≡ Some x → ArePast course entries acknowledged txns → ArePast course entries acknowledged ((t, with_call x c) ∷ txns)
+pub past_noted : (course : Course) (entries : List Entry) (acknowledged : List TxnId) (txns : List (TxnId × Txn)) (t : TxnId) (x : Txn) (c : CallRecord) → lookup (is_txn t) txns ≡ Some x → ArePast course entries acknowledged txns → ArePast course entries acknowledged ((t, with_call x c) ∷ txns)
 past_noted course entries acknowledged txns t x c known p = record { each = λ u y e. by u y (is_txn u t) refl e; held = p.held; held_within = p.held_within }
   where
     by : (u : TxnId) (y : Txn) (b : Bool) → is_txn u t ≡ b → cond b (Some (with_call x c)) (lookup (is_txn u) txns) ≡ Some y → IsPast course.latest u y

@@ -8,11 +8,11 @@ use Rattle.rc_base.specs.declared.ids.TxnId.{TxnId}
 use Rattle.coll_model.specs.Effect.{folded}
 use Rattle.txn_table.specs.declared.committed.Committed.{Committed}
 use Rattle.log_store.specs.declared.kept.Kept.{Kept as Log}
-use Rattle.script_text.specs.declared.event.Call.{Call}
-use Rattle.script_text.specs.declared.event.Call.TheVariants.{Commit}
+use Rattle.events.specs.declared.call.Call.{Call}
+use Rattle.events.specs.declared.call.Call.TheVariants.{Commit}
 use Rattle.order_machine.specs.declared.observation.Observation.{Observation}
 use Rattle.order_machine.specs.declared.observation.Observation.TheVariants as says
-use Rattle.order_machine.specs.declared.reply.Reply.{Reply}
+use Rattle.events.specs.declared.answer.Reply.{Reply}
 use Rattle.replica.specs.declared.step.Outcome.{Outcome}
 use Rattle.replica.specs.declared.step.StepEvent.TheVariants as steps
 use Rattle.replica.specs.Open.{Open}

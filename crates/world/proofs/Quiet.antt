@@ -11,7 +11,7 @@ use Rattle.coll_model.specs.Effect.{State}
 use Rattle.rc_base.specs.Ids.{is_txn, is_epoch}
 use Rattle.order_machine.specs.Order.{Entry}
 use Rattle.order_machine.specs.Machine.{Machine, Txn, never_opened, is_pending, is_active, is_alone, has_role}
-use Rattle.order_machine.specs.Rows.{HoldsBehind}
+use Rattle.order_machine.specs.Transitions.{HoldsBehind}
 use Rattle.key_locks.specs.Grants.{Grant}
 use Rattle.txn_front.specs.Front.{Fronted}
 use Rattle.world.specs.Running.{running, Runs}

@@ -8,7 +8,7 @@ use Rattle.disk_model.specs.Disk.{Areas, Within}
 use Rattle.txn_table.specs.declared.committed.Committed.{Committed}
 use Rattle.log_store.specs.declared.kept.Kept.{Kept as Log}
 use Rattle.log_store.specs.Log.{commits_in}
-use Rattle.script_text.specs.declared.event.Event.TheVariants.{Arm, Inspect}
+use Rattle.events.specs.declared.event.Event.TheVariants.{Arm, Inspect}
 use Rattle.order_machine.specs.declared.observation.Observation.{Observation}
 use Rattle.order_machine.specs.declared.observation.Observation.TheVariants as says
 use Rattle.order_machine.specs.Order.{Entry, state_at}

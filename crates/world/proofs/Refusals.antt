@@ -1,9 +1,9 @@
 -- An event that the machine's state refuses.
 use Rattle.std.proofs.Common.{◌≡◌, [], ◌∷◌, Some, refl}
-use Rattle.script_text.specs.declared.event.Event.{Event}
+use Rattle.events.specs.declared.event.Event.{Event}
 use Rattle.order_machine.specs.declared.observation.Observation.{Observation}
 use Rattle.order_machine.specs.Machine.{Machine}
-use Rattle.order_machine.specs.Rows.{refusal}
+use Rattle.order_machine.specs.Transitions.{refusal}
 use Rattle.order_machine.specs.Legal.{IsWhole, moved}
 
 -- It has that one line, and changes nothing.

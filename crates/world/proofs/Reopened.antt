@@ -3,11 +3,11 @@ use Rattle.std.proofs.Common.{◌≡◌, ℕ, ◌≤◌, length, List, [], ◌�
 use Rattle.std.proofs.lemmas.Bool.{false≢true}
 use Rattle.std.proofs.lemmas.Option.{none-some}
 use Rattle.rc_base.specs.declared.ids.TxnId.{TxnId}
-use Rattle.script_text.specs.declared.event.Event.TheVariants.{Crash, Reboot}
+use Rattle.events.specs.declared.event.Event.TheVariants.{Crash, Reboot}
 use Rattle.order_machine.specs.declared.observation.Observation.TheVariants as says
 use Rattle.order_machine.specs.Order.{Entry}
 use Rattle.order_machine.specs.Machine.{Machine, Replica, Txn, ended_at}
-use Rattle.order_machine.specs.Rows.{opened}
+use Rattle.order_machine.specs.Transitions.{opened}
 use Rattle.order_machine.specs.Legal.{IsWhole, moved}
 use Rattle.world.specs.Standing.{Course, resting, shut, standing}
 use Rattle.world.proofs.Booted.{standing_booted, once_standing}

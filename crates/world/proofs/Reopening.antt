@@ -12,7 +12,7 @@ use Rattle.log_store.specs.Fold.{Place, no_log}
 use Rattle.log_store.specs.Growth.{new_log}
 use Rattle.log_store.specs.Log.{commits_in}
 use Rattle.log_store.specs.Store.{KeepsOrBegins}
-use Rattle.script_text.specs.declared.event.Event.TheVariants.{Crash, Reboot}
+use Rattle.events.specs.declared.event.Event.TheVariants.{Crash, Reboot}
 use Rattle.order_machine.specs.declared.observation.Observation.{Observation}
 use Rattle.order_machine.specs.declared.observation.Observation.TheVariants as says
 use Rattle.order_machine.specs.Order.{Entry}

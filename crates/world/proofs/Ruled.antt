@@ -11,7 +11,7 @@ use Rattle.config_rule.specs.declared.answers.Answer.{Answer}
 use Rattle.config_rule.specs.declared.appointments.Appointed.{Appointed}
 use Rattle.config_rule.specs.Rule.{is_above, are_members, has_quorum, has_answered_last, tells_most, is_latest, was_active, appointment_of, first_broken, broken_appointment, broken_activation, changed_at, made_active, made_current}
 use Rattle.order_machine.specs.Machine.{Machine, Appointment, as_appointed, known_of}
-use Rattle.order_machine.specs.Rows.{is_above_all, noting_active, dropping}
+use Rattle.order_machine.specs.Transitions.{is_above_all, noting_active, dropping}
 use Rattle.world.specs.Course.{IsNoted, AreNoted}
 use Rattle.world.specs.Kept.{Kept}
 use Rattle.world.specs.World.{IsRuled}

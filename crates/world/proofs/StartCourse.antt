@@ -10,7 +10,7 @@ use Rattle.rc_base.specs.Ids.{is_epoch, epoch_lt, epoch_le}
 use Rattle.rc_base.proofs.SameIds.{is_epoch_same}
 use Rattle.log_store.specs.declared.kept.Kept.{Kept as Log}
 use Rattle.order_machine.specs.Machine.{Appointment}
-use Rattle.order_machine.specs.Rows.{noting_active}
+use Rattle.order_machine.specs.Transitions.{noting_active}
 use Rattle.world.specs.Course.{IsOurs, IsCourse, IsFence, IsLogged, is_appointed}
 use Rattle.world.specs.Standing.{Course}
 use Rattle.replica.proofs.EpochOrder.{epoch_le_refl, epoch_le_lt, epoch_lt_le}

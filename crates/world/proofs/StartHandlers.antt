@@ -13,12 +13,12 @@ use Rattle.config_rule.proofs.Rising.{same_members}
 use Rattle.disk_model.specs.Disk.{Areas}
 use Rattle.log_store.specs.declared.kept.Kept.{Kept as Log}
 use Rattle.log_store.specs.Durable.{StandForOneOf}
-use Rattle.script_text.specs.declared.event.Event.{Event}
-use Rattle.script_text.specs.declared.event.Event.TheVariants.{Appoint}
+use Rattle.events.specs.declared.event.Event.{Event}
+use Rattle.events.specs.declared.event.Event.TheVariants.{Appoint}
 use Rattle.order_machine.specs.declared.observation.Observation.{Observation}
 use Rattle.order_machine.specs.declared.observation.Observation.TheVariants as says
 use Rattle.order_machine.specs.Machine.{Machine, replica, known_of}
-use Rattle.order_machine.specs.Rows.{refusal}
+use Rattle.order_machine.specs.Transitions.{refusal}
 use Rattle.replica.specs.Open.{Open, AreSame}
 use Rattle.replica.specs.Step.{MayStep}
 use Rattle.world.specs.declared.error.WorldError.{WorldError}

@@ -8,13 +8,13 @@ use Rattle.rc_base.specs.declared.ids.Epoch.{Epoch}
 use Rattle.rc_base.specs.declared.ids.TxnId.{TxnId}
 use Rattle.rc_base.specs.Ids.{is_txn, is_epoch}
 use Rattle.txn_table.specs.declared.committed.Committed.{Committed}
-use Rattle.script_text.specs.declared.event.Event.TheVariants.{Appoint}
+use Rattle.events.specs.declared.event.Event.TheVariants.{Appoint}
 use Rattle.order_machine.specs.declared.observation.Observation.{Observation}
 use Rattle.order_machine.specs.declared.observation.Observation.TheVariants as says
 use Rattle.order_machine.specs.Order.{Entry, holds}
 use Rattle.order_machine.specs.Machine.{Machine, Replica, Txn, Appointment}
-use Rattle.order_machine.specs.Answers.{Replays}
-use Rattle.order_machine.specs.Rows.{Position, May, IsComplete, at_start, after, new_role, noting_active}
+use Rattle.events.specs.Replay.{Replays}
+use Rattle.order_machine.specs.Transitions.{Position, May, IsComplete, at_start, after, new_role, noting_active}
 use Rattle.order_machine.specs.Legal.{Lines, behind}
 use Rattle.world.specs.Course.{MayFollow, MayBeNext}
 use Rattle.world.specs.Running.{running}

@@ -7,7 +7,7 @@ use Rattle.log_store.specs.declared.kept.Kept.{Kept as Log}
 use Rattle.log_store.specs.Durable.{durable, StandForOneOf}
 use Rattle.log_store.specs.Epochs.{later}
 use Rattle.log_store.specs.Log.{commits_in, last_epoch}
-use Rattle.script_text.specs.declared.event.Event.TheVariants.{Appoint}
+use Rattle.events.specs.declared.event.Event.TheVariants.{Appoint}
 use Rattle.order_machine.specs.declared.observation.Observation.TheVariants as says
 use Rattle.order_machine.specs.Order.{empty_order}
 use Rattle.order_machine.specs.Machine.{Machine, Replica, never_opened, without_role, ended_at}

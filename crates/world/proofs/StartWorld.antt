@@ -12,12 +12,12 @@ use Rattle.disk_model.specs.Disk.{Areas}
 use Rattle.txn_table.specs.declared.committed.Committed.{Committed}
 use Rattle.log_store.specs.declared.kept.Kept.{Kept as Log}
 use Rattle.log_store.specs.Durable.{StandForOneOf}
-use Rattle.script_text.specs.declared.event.Event.TheVariants.{Appoint}
+use Rattle.events.specs.declared.event.Event.TheVariants.{Appoint}
 use Rattle.order_machine.specs.declared.observation.Observation.{Observation}
 use Rattle.order_machine.specs.declared.observation.Observation.TheVariants as says
 use Rattle.order_machine.specs.Order.{Entry, empty_order, length_of}
 use Rattle.order_machine.specs.Machine.{Machine, Replica, Txn, replica, is_booted, known_of, order_of, without_role, ended_at}
-use Rattle.order_machine.specs.Rows.{refusal}
+use Rattle.order_machine.specs.Transitions.{refusal}
 use Rattle.replica.specs.Open.{Open, AreSame}
 use Rattle.replica.specs.Step.{MayStep}
 use Rattle.world.specs.Course.{AreNoted}

@@ -10,8 +10,8 @@ use Rattle.log_store.specs.declared.kept.Kept.{Kept as Log}
 use Rattle.log_store.specs.Durable.{durable, StandForOneOf}
 use Rattle.log_store.specs.Epochs.{later}
 use Rattle.log_store.specs.Growth.{after}
-use Rattle.script_text.specs.declared.event.Call.{Call}
-use Rattle.script_text.specs.declared.event.Call.TheVariants.{Begin, Make, Get, GetForUpdate, Set, Add, Delete, Commit, Abort}
+use Rattle.events.specs.declared.call.Call.{Call}
+use Rattle.events.specs.declared.call.Call.TheVariants.{Begin, Make, Get, GetForUpdate, Set, Add, Delete, Commit, Abort}
 use Rattle.order_machine.specs.declared.observation.Observation.{Observation}
 use Rattle.txn_front.specs.Front.{Fronted, Going, going_of, nothing, AreAlike}
 use Rattle.txn_front.proofs.Fronts.{AreAlike-trans}

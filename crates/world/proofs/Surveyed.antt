@@ -17,12 +17,12 @@ use Rattle.log_store.specs.Durable.{durable, StandForOneOf}
 use Rattle.log_store.specs.Epochs.{later}
 use Rattle.log_store.specs.Growth.{after}
 use Rattle.log_store.specs.Log.{Items, commits_in, last_epoch}
-use Rattle.script_text.specs.declared.event.Event.TheVariants.{Survey}
+use Rattle.events.specs.declared.event.Event.TheVariants.{Survey}
 use Rattle.order_machine.specs.declared.observation.Observation.TheVariants as says
 use Rattle.order_machine.specs.Order.{Entry}
 use Rattle.order_machine.specs.Machine as machine
 use Rattle.order_machine.specs.Machine.{Machine, Txn, without_role}
-use Rattle.order_machine.specs.Rows.{HoldsBehind, IsProgress, refusal, is_above_all, is_told, with_survey}
+use Rattle.order_machine.specs.Transitions.{HoldsBehind, IsProgress, refusal, is_above_all, is_told, with_survey}
 use Rattle.order_machine.specs.Legal.{IsWhole, moved}
 use Rattle.txn_front.specs.Front.{Fronted, going_of, nothing, AreAlike}
 use Rattle.replica.specs.declared.role.Role.{Role}

@@ -12,13 +12,13 @@ use Rattle.disk_model.specs.Disk.{Areas}
 use Rattle.log_store.specs.declared.kept.Kept.{Kept as Log}
 use Rattle.log_store.specs.Durable.{StandForOneOf}
 use Rattle.log_store.specs.Epochs.{later}
-use Rattle.script_text.specs.declared.event.Event.TheVariants.{Survey}
+use Rattle.events.specs.declared.event.Event.TheVariants.{Survey}
 use Rattle.order_machine.specs.declared.observation.Observation.{Observation}
 use Rattle.order_machine.specs.declared.observation.Observation.TheVariants as says
 use Rattle.order_machine.specs.Order.{length_of}
 use Rattle.order_machine.specs.Machine as machine
 use Rattle.order_machine.specs.Machine.{Machine, replica, order_of, without_role}
-use Rattle.order_machine.specs.Rows.{refusal, down_of, is_above_all, with_survey}
+use Rattle.order_machine.specs.Transitions.{refusal, down_of, is_above_all, with_survey}
 use Rattle.order_machine.specs.Legal.{IsWhole, moved}
 use Rattle.txn_front.specs.Front.{nothing}
 use Rattle.replica.specs.declared.role.Role.{Role}

@@ -10,12 +10,12 @@ use Rattle.rc_base.proofs.SameIds.{is_epoch-true}
 use Rattle.config_rule.specs.declared.answers.Answer.{Answer}
 use Rattle.config_rule.specs.Rule.{with_answer}
 use Rattle.disk_model.specs.Disk.{Areas}
-use Rattle.script_text.specs.declared.event.Event.TheVariants.{Survey}
+use Rattle.events.specs.declared.event.Event.TheVariants.{Survey}
 use Rattle.order_machine.specs.declared.observation.Observation.TheVariants as says
 use Rattle.order_machine.specs.Order.{Entry}
 use Rattle.order_machine.specs.Machine as machine
 use Rattle.order_machine.specs.Machine.{Machine, Appointment, Txn, replica, put_replica, order_of, without_role}
-use Rattle.order_machine.specs.Rows.{HoldsBehind, IsProgress, refusal, at_start, with_survey, is_told}
+use Rattle.order_machine.specs.Transitions.{HoldsBehind, IsProgress, refusal, at_start, with_survey, is_told}
 use Rattle.order_machine.specs.Legal.{IsWhole, moved}
 use Rattle.replica.specs.declared.role.Role.{Role}
 use Rattle.replica.specs.declared.role.Role.TheVariants.{Other, Primary}

@@ -8,16 +8,18 @@ use Rattle.rc_base.specs.declared.ids.TxnId.{TxnId}
 use Rattle.rc_base.specs.Ids.{is_txn}
 use Rattle.coll_model.specs.Effect.{State, folded}
 use Rattle.key_locks.specs.Grants.{Grant, Alike}
-use Rattle.script_text.specs.declared.event.Call.{Call}
-use Rattle.script_text.specs.declared.event.Call.TheVariants.{Begin}
+use Rattle.events.specs.declared.call.Call.{Call}
+use Rattle.events.specs.declared.call.Call.TheVariants.{Begin}
 use Rattle.order_machine.specs.declared.observation.Observation.TheVariants as says
 use Rattle.order_machine.specs.Order.{Entry}
 use Rattle.order_machine.specs.Machine.{Machine, Txn, is_live, live_txn, ops_of}
-use Rattle.order_machine.specs.Locking.{locks_at}
-use Rattle.order_machine.specs.Answers.{answer, seen, plain, txn_named, locked_or, live_reply, reply_to}
+use Rattle.events.specs.Locking.{locks_at}
+use Rattle.order_machine.specs.Clients.{answer, seen}
+use Rattle.events.specs.Answers.{plain, locked_or, live_reply, reply_to}
+use Rattle.events.specs.Calls.{txn_named}
 use Rattle.txn_front.specs.Front.{Fronted, Going, going_of, told, txn_at}
 use Rattle.world.specs.Running.{running, state_of, Runs}
-use Rattle.order_machine.proofs.ProtectedGrants.{against-alike}
+use Rattle.lock_laws.proofs.ProtectedGrants.{against-alike}
 
 -- ---- the state that is shown
 

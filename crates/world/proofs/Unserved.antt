@@ -5,17 +5,20 @@ use Rattle.std.specs.Map.{lookup}
 use Rattle.std.proofs.lemmas.Bool.{cond-false}
 use Rattle.rc_base.specs.declared.ids.TxnId.{TxnId}
 use Rattle.rc_base.specs.Ids.{is_txn}
-use Rattle.script_text.specs.declared.event.Event.TheVariants.{Client}
-use Rattle.script_text.specs.declared.event.Call.{Call}
-use Rattle.script_text.specs.declared.event.Call.TheVariants.{Begin, Make, Get, GetForUpdate, Set, Add, Delete, Commit, Abort}
+use Rattle.events.specs.declared.event.Event.TheVariants.{Client}
+use Rattle.events.specs.declared.call.Call.{Call}
+use Rattle.events.specs.declared.call.Call.TheVariants.{Begin, Make, Get, GetForUpdate, Set, Add, Delete, Commit, Abort}
 use Rattle.order_machine.specs.declared.observation.Observation.{Observation}
 use Rattle.order_machine.specs.declared.observation.Observation.TheVariants as says
 use Rattle.order_machine.specs.Order.{Entry}
-use Rattle.order_machine.specs.Machine.{Machine, Replica, Txn, Noted, is_active, live_txn}
-use Rattle.order_machine.specs.Answers.{noted, txn_named, is_replayed, is_refusal, reply_at}
+use Rattle.order_machine.specs.Machine.{Machine, Replica, Txn, is_active, live_txn}
+use Rattle.events.specs.Calls.{CallRecord, txn_named}
+use Rattle.order_machine.specs.Clients.{noted}
+use Rattle.events.specs.Replay.{is_replayed, is_refusal}
+use Rattle.events.specs.Answers.{reply_at}
 use Rattle.txn_table.specs.declared.committed.Committed.{Committed}
 use Rattle.world.specs.Course.{ArePast, MayFollow}
-use Rattle.order_machine.specs.Rows.{HoldsBehind, asking, going_at}
+use Rattle.order_machine.specs.Transitions.{HoldsBehind, asking, going_at}
 use Rattle.order_machine.specs.Legal.{IsWhole, moved}
 use Rattle.world.specs.Standing.{Course, resting, shut, standing}
 use Rattle.world.proofs.Answer.{answer_serves}
@@ -39,7 +42,7 @@ abbrev IsStill : List Entry → List TxnId → Replica → List (TxnId × Txn) �
 IsStill entries acknowledged first txns course m = (others : List (TxnId × Txn)) × (m ≡ standing entries acknowledged first others course) × AreStill txns others
 
 -- a noted call changes these alone
-noted_stands : (entries : List Entry) (acknowledged : List TxnId) (first : Replica) (txns : List (TxnId × Txn)) (course : Course) (t : TxnId) (call : Noted) → is_replayed call ≡ false → call.op ≡ None → IsStill entries acknowledged first txns course (noted (standing entries acknowledged first txns course) t call)
+noted_stands : (entries : List Entry) (acknowledged : List TxnId) (first : Replica) (txns : List (TxnId × Txn)) (course : Course) (t : TxnId) (call : CallRecord) → is_replayed call ≡ false → call.op ≡ None → IsStill entries acknowledged first txns course (noted (standing entries acknowledged first txns course) t call)
 noted_stands entries acknowledged first txns course t call off no_op = by_known (lookup (is_txn t) txns) refl
   where
     by_known : (o : Option Txn) → lookup (is_txn t) txns ≡ o → IsStill entries acknowledged first txns course (option_map_or (λ x. standing entries acknowledged first ((t, record x { calls = x.calls ++ call ∷ [] }) ∷ txns) course) o (standing entries acknowledged first txns course))

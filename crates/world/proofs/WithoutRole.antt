@@ -6,9 +6,9 @@ use Rattle.rc_base.specs.declared.ids.TxnId.{TxnId}
 use Rattle.rc_base.specs.Ids.{is_epoch}
 use Rattle.order_machine.specs.Order.{Entry}
 use Rattle.order_machine.specs.Machine.{Machine, Replica, Txn, txn_of, role_of, has_role, is_acknowledged, is_pending}
-use Rattle.order_machine.specs.Rows.{HoldsBehind}
-use Rattle.order_machine.proofs.Behind.{not_alone}
-use Rattle.order_machine.proofs.Kept.{never_put}
+use Rattle.order_machine.specs.Transitions.{HoldsBehind}
+use Rattle.order_machine.proofs.Machines.{not_alone}
+use Rattle.order_machine.proofs.Machines.{never_put}
 use Rattle.world.specs.Standing.{Course, standing}
 
 -- nothing is pending at a replica without a role

@@ -11,7 +11,7 @@ use Rattle.log_store.specs.declared.kept.Kept.{Kept as Log}
 use Rattle.log_store.specs.Log.{last_epoch}
 use Rattle.order_machine.specs.Order.{Entry, holds}
 use Rattle.order_machine.specs.Machine.{Appointment, Txn, ops_of}
-use Rattle.order_machine.specs.Answers.{Replays}
+use Rattle.events.specs.Replay.{Replays}
 use Rattle.world.specs.Running.{state_of}
 use Rattle.world.specs.Standing.{Course}
 

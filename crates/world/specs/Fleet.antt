@@ -1,8 +1,8 @@
 -- The disks of a fleet, by the numbers of their replicas.
 use Rattle.std.specs.Prelude.{◌≡◌, ℕ, zero, suc, ◌+◌, ◌-◌, ◌^◌, ◌≤◌, min, Bool, true, false, ◌==◌, List, [], ◌∷◌, Result, Ok, Err, if◌then◌else◌}
 use Rattle.disk_model.specs.Disk.{Areas, Marks, after_arm, after_stop}
-use Rattle.script_text.specs.declared.event.Event.{Event}
-use Rattle.script_text.specs.declared.event.Event.TheVariants.{Boot, Client, Arm, Crash, Reboot, Inspect, Survey, Appoint, Activate}
+use Rattle.events.specs.declared.event.Event.{Event}
+use Rattle.events.specs.declared.event.Event.TheVariants.{Boot, Client, Arm, Crash, Reboot, Inspect, Survey, Appoint, Activate}
 use Rattle.order_machine.specs.declared.observation.Observation.{Observation}
 use Rattle.world.specs.declared.error.WorldError.{WorldError}
 use Rattle.order_machine.specs.declared.observation.Observation.TheVariants as says

@@ -8,7 +8,7 @@ use Rattle.coll_model.specs.Effect.{State, folded}
 use Rattle.key_locks.specs.Grants.{Grant, Alike}
 use Rattle.order_machine.specs.Order.{Entry, holds}
 use Rattle.order_machine.specs.Machine.{Machine, Txn, ops_of}
-use Rattle.order_machine.specs.Protected.{AreExclusive, AreProtected}
+use Rattle.lock_laws.specs.Protected.{AreExclusive, AreProtected}
 use Rattle.txn_front.specs.Front.{Fronted, Going, going_of}
 use Rattle.world.specs.Standing.{Course, standing, serving}
 

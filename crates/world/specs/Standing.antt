@@ -6,7 +6,7 @@ use Rattle.key_locks.specs.Grants.{Grant}
 use Rattle.config_rule.specs.declared.answers.Answer.{Answer}
 use Rattle.order_machine.specs.Order.{Entry}
 use Rattle.order_machine.specs.Machine.{Machine, Replica, Survey, Appointment, Txn, never_opened}
-use Rattle.order_machine.specs.Rows.{first_epoch}
+use Rattle.order_machine.specs.Transitions.{first_epoch}
 
 -- What was decided so far: the appointments, the boot's first and those behind it in order; the latest epoch of them; what
 -- was answered to surveys; and the surveys that came to replica 0.

@@ -8,8 +8,8 @@ use Rattle.log_store.specs.Durable.{durable, StandFor}
 use Rattle.log_store.specs.Fold.{no_log}
 use Rattle.log_store.specs.Log.{commits_in}
 use Rattle.log_store.specs.Store.{IsOpenOn}
-use Rattle.script_text.specs.declared.event.Event.{Event}
-use Rattle.script_text.specs.declared.event.Event.TheVariants.{Boot, Client, Arm, Crash, Reboot, Inspect, Survey, Appoint, Activate}
+use Rattle.events.specs.declared.event.Event.{Event}
+use Rattle.events.specs.declared.event.Event.TheVariants.{Boot, Client, Arm, Crash, Reboot, Inspect, Survey, Appoint, Activate}
 use Rattle.order_machine.specs.declared.observation.Observation.{Observation}
 use Rattle.order_machine.specs.Order.{Entry, length_of}
 use Rattle.order_machine.specs.Machine.{Machine, Txn, empty_machine, is_booted, order_of}

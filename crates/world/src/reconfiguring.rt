@@ -3,7 +3,7 @@ ghost use Rattle.std.specs.Prelude.{◌≡◌, ◌<◌, ◌≤◌, ◌∷◌, []
 ghost use Rattle.std.specs.List.{list_any};
 ghost use Rattle.config_rule.specs.Rule.{after_answer, after_active};
 ghost use Rattle.order_machine.specs.Machine.{Machine};
-ghost use Rattle.script_text.specs.declared.event.Event.TheVariants.{Survey, Appoint, Activate};
+ghost use Rattle.events.specs.declared.event.Event.TheVariants.{Survey, Appoint, Activate};
 ghost use Rattle.world.specs.Fleet.{fault_lines, RoseBy, TellsZero};
 ghost use Rattle.world.specs.Kept.{Kept};
 ghost use Rattle.world.specs.Steps.{is_active_line};

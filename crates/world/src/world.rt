@@ -1,9 +1,9 @@
 ghost use Rattle.std.specs.Prelude.{◌≡◌, ℕ, ◌<◌, ◌≤◌, ◌∷◌, ◌++◌, [], IfOk, OnOk, OnErr, Err, None, false, max, vec_len, slice_get};
 ghost use Rattle.order_machine.specs.declared.observation.Observation.{Observation};
 ghost use Rattle.order_machine.specs.Machine.{Machine};
-ghost use Rattle.order_machine.specs.Rows.{event_primary, is_actor};
+ghost use Rattle.order_machine.specs.Transitions.{event_primary, is_actor};
 ghost use Rattle.replica.specs.Step.{CallFits};
-ghost use Rattle.script_text.specs.declared.event.Event.TheVariants.{Boot, Client, Arm, Crash, Reboot, Inspect};
+ghost use Rattle.events.specs.declared.event.Event.TheVariants.{Boot, Client, Arm, Crash, Reboot, Inspect};
 ghost use Rattle.world.specs.Fleet.{images_of, faults_of, marks_of, marks_after, fault_lines, RoseBy, TellsZero};
 ghost use Rattle.world.specs.Kept.{no_events, has_booted};
 ghost use Rattle.world.specs.Steps as spec;

@@ -1,7 +1,7 @@
 use Rattle.std.proofs.Common.{◌≡◌, ℕ, ◌<◌, ◌^◌, List, [], ◌∷◌, codes, decimal, get_or, arith}
 use Rattle.std.specs.Borrow.{Bor}
-use Rattle.script_text.specs.declared.event.Event.{Event}
-use Rattle.script_text.specs.declared.event.Event.TheVariants.{Arm}
+use Rattle.events.specs.declared.event.Event.{Event}
+use Rattle.events.specs.declared.event.Event.TheVariants.{Arm}
 use Rattle.script_text.specs.Reading.{texts, IsSentence}
 use Rattle.script_text.proofs.Numbers.{same_number}
 use Rattle.script_text.proofs.stops.arm.Goals as goal

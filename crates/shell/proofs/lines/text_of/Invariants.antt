@@ -1,5 +1,5 @@
 use Rattle.std.proofs.Common.{◌≡◌, ◌++◌, drop}
-use Rattle.order_machine.specs.Lines.{lines_text}
+use Rattle.transcript_text.specs.Lines.{lines_text}
 use Rattle.shell.proofs.lines.text_of.Given as goal
 
 -- what is written and what is left are the lines of all

@@ -2,7 +2,7 @@ use Rattle.std.proofs.Common.{◌≡◌, ◌∙◌, Some, sym, ap}
 use Rattle.coll_model.specs.Effect.{folded}
 use Rattle.coll_model.specs.declared.op.Kind.{Kind}
 use Rattle.coll_model.specs.declared.op.Kind.TheVariants.{Dict}
-use Rattle.order_machine.specs.Protected.{kind_at}
+use Rattle.lock_laws.specs.Protected.{kind_at}
 use Rattle.txn_front.proofs.OnKeys.{entered-kind}
 use Rattle.txn_front.proofs.asking.enter.Goals as goal
 

@@ -2,8 +2,8 @@ use Rattle.std.proofs.Common.{◌≡◌, ◌∙◌, Some, None, sym, ap}
 use Rattle.std.specs.Option.{option_copied}
 use Rattle.std.proofs.lemmas.Result.{IfOk-weaker}
 use Rattle.coll_model.specs.Effect.{folded}
-use Rattle.order_machine.specs.declared.reply.Reply.{Reply}
-use Rattle.order_machine.specs.Answers.{live_reply}
+use Rattle.events.specs.declared.answer.Reply.{Reply}
+use Rattle.events.specs.Answers.{live_reply}
 use Rattle.txn_front.specs.OnKey.{keyed}
 use Rattle.txn_front.proofs.OnKeys.{told_from}
 use Rattle.txn_front.proofs.asking.on_key.Goals as goal

@@ -1,6 +1,6 @@
 use Rattle.std.proofs.Common.{Some, None, refl}
 use Rattle.std.specs.Option.{option_copied}
-use Rattle.order_machine.specs.Protected.{value_at}
+use Rattle.lock_laws.specs.Protected.{value_at}
 use Rattle.txn_front.proofs.Seen.{value_from, nothing_left}
 use Rattle.txn_front.proofs.asking.value_seen.Goals as goal
 

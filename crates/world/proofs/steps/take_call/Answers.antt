@@ -1,13 +1,12 @@
-use Rattle.std.proofs.Common.{rules, ◌≡◌}
+use Rattle.std.proofs.Common.{rules, ◌≡◌, subst}
 use Rattle.std.specs.Result.{IsErrOf}
-use Rattle.script_text.specs.declared.event.Call.{Call}
+use Rattle.events.specs.declared.call.Call.{Call}
 use Rattle.log_store.specs.declared.kept.Kept.{Kept as Log}
 use Rattle.replica.specs.declared.error.StepError.TheVariants as errors
 use Rattle.replica.specs.declared.step.StepEvent.TheVariants as steps
 use Rattle.std.specs.Prelude.{OnOk}
 use Rattle.world.specs.Steps.{IsCutOff, log_behind}
 use Rattle.world.specs.World.{IsOpen}
-use Rattle.std.proofs.Common.{subst}
 use Rattle.world.proofs.steps.take_call.Goals as goal
 
 pub returns-clause-cut : goal.returns-clause-cut

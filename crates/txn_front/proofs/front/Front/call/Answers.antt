@@ -1,7 +1,8 @@
 use Rattle.std.proofs.Common.{◌≡◌, ◌∙◌, ◌+◌, Some, None, sym}
 use Rattle.std.proofs.lemmas.Result.{IfOk-weaker, on_ok_weaker}
 use Rattle.order_machine.specs.declared.observation.Observation.TheVariants as says
-use Rattle.order_machine.specs.Answers.{plain, txn_named}
+use Rattle.events.specs.Answers.{plain}
+use Rattle.events.specs.Calls.{txn_named}
 use Rattle.txn_front.specs.Front.{txn_at, told, called, begun, AreAlike, IsOver}
 use Rattle.txn_front.proofs.Fronts.{told_begin, called_begin, AreAlike-from_same, IsOver-called, IsOver-alike}
 use Rattle.txn_front.proofs.front.Front.call.Goals as goal

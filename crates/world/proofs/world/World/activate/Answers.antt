@@ -1,5 +1,5 @@
 use Rattle.std.proofs.Common.{◌≡◌, ◌∙◌, sym, ap, subst, Option, Some, arith, OnOk}
-use Rattle.script_text.specs.declared.event.Event.TheVariants.{Activate}
+use Rattle.events.specs.declared.event.Event.TheVariants.{Activate}
 use Rattle.order_machine.specs.declared.observation.Observation.TheVariants as says
 use Rattle.config_rule.specs.Rule.{Known, after_activation}
 use Rattle.world.specs.Kept.{Kept}

@@ -1,6 +1,6 @@
 use Rattle.std.proofs.Common.{◌∙◌, Some, ap, sym, refl, not, arith}
 use Rattle.std.proofs.lemmas.Result.{err_from_is_err_and}
-use Rattle.script_text.specs.declared.event.Event.TheVariants.{Arm}
+use Rattle.events.specs.declared.event.Event.TheVariants.{Arm}
 use Rattle.order_machine.specs.declared.observation.Observation.TheVariants as says
 use Rattle.world.proofs.Answered.{answered_serves, answered_refused, err_serves, new_refuses, arm_down}
 use Rattle.world.proofs.Later.{none_of, some_of}

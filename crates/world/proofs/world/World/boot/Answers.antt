@@ -1,9 +1,9 @@
 use Rattle.std.proofs.Common.{◌≡◌, Some, ◌∙◌, ◌∷◌, [], ap, sym, refl, arith}
-use Rattle.script_text.specs.declared.event.Event.TheVariants.{Boot}
+use Rattle.events.specs.declared.event.Event.TheVariants.{Boot}
 use Rattle.order_machine.specs.declared.observation.Observation.TheVariants as says
 use Rattle.world.proofs.Answered.{answered_serves, answered_refused, boot_refuses}
 use Rattle.config_rule.specs.Rule.{Known, after_active}
-use Rattle.order_machine.specs.Rows.{first_epoch}
+use Rattle.order_machine.specs.Transitions.{first_epoch}
 use Rattle.world.specs.Kept.{Kept}
 use Rattle.world.proofs.Booting.{booted_rule, boot_does, rule_told, rule_untold}
 use Rattle.world.proofs.world.World.boot.Goals as goal

@@ -3,7 +3,7 @@ use Rattle.log_store.specs.declared.kept.Kept.{Kept as Log}
 use Rattle.order_machine.specs.declared.observation.Observation.{Observation}
 use Rattle.order_machine.specs.declared.observation.Observation.TheVariants as says
 use Rattle.order_machine.specs.Legal.{moved}
-use Rattle.script_text.specs.declared.event.Event.TheVariants.{Client}
+use Rattle.events.specs.declared.event.Event.TheVariants.{Client}
 use Rattle.replica.specs.declared.step.StepEvent.TheVariants as steps
 use Rattle.world.specs.Fleet.{TellsZero}
 use Rattle.world.specs.Kept.{Kept, has_booted}

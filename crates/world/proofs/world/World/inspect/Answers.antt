@@ -1,6 +1,6 @@
 use Rattle.std.proofs.Common.{◌≡◌, ◌∙◌, ℕ, List, [], ◌∷◌, length, map, Some, ap, sym, refl, arith}
 use Rattle.std.proofs.lemmas.Result.{err_from_is_err_and}
-use Rattle.script_text.specs.declared.event.Event.TheVariants.{Inspect}
+use Rattle.events.specs.declared.event.Event.TheVariants.{Inspect}
 use Rattle.order_machine.specs.declared.observation.Observation.TheVariants as says
 use Rattle.order_machine.specs.Contents.{rows_of}
 use Rattle.coll_model.specs.Effect.{State}

@@ -1,6 +1,6 @@
 use Rattle.std.proofs.Common.{◌∙◌, ap, sym, refl, arith}
 use Rattle.std.proofs.lemmas.Result.{err_from_is_err_and}
-use Rattle.script_text.specs.declared.event.Event.TheVariants.{Reboot}
+use Rattle.events.specs.declared.event.Event.TheVariants.{Reboot}
 use Rattle.order_machine.specs.declared.observation.Observation.TheVariants as says
 use Rattle.world.specs.Kept.{has_booted}
 use Rattle.world.proofs.Answered.{answered_serves, answered_refused, memory_serves, new_refuses, reboot_ignored}

@@ -1,7 +1,7 @@
 use Rattle.std.proofs.Common.{rules, ◌≡◌, ◌∙◌, sym, ap, subst, refl, ℕ, ◌++◌, ◌∷◌, [], max, Some, List, IfOk, arith}
 use Rattle.order_machine.specs.declared.observation.Observation.{Observation}
 use Rattle.order_machine.specs.declared.observation.Observation.TheVariants as says
-use Rattle.script_text.specs.declared.event.Event.TheVariants.{Appoint}
+use Rattle.events.specs.declared.event.Event.TheVariants.{Appoint}
 use Rattle.world.specs.Kept.{Kept}
 use Rattle.world.specs.Steps.{told_start, most_shown}
 use Rattle.world.proofs.Appointing.{all_lines}

@@ -3,7 +3,7 @@ use Rattle.std.specs.Prelude.{is_some}
 use Rattle.std.proofs.lemmas.Result.{err_from_is_err_and}
 use Rattle.config_rule.specs.Rule.{Known, is_above, after_answer}
 use Rattle.order_machine.specs.declared.observation.Observation.TheVariants as says
-use Rattle.script_text.specs.declared.event.Event.TheVariants.{Survey}
+use Rattle.events.specs.declared.event.Event.TheVariants.{Survey}
 use Rattle.replica.specs.declared.step.StepEvent.TheVariants as steps
 use Rattle.rc_base.specs.declared.ids.Epoch.{Epoch}
 use Rattle.rc_base.specs.declared.ids.Lsn.{Lsn}

@@ -1,0 +1,4 @@
+pub mod Calls
+pub mod Locking
+pub mod Answers
+pub mod Replay

@@ -1,0 +1,6 @@
+pub mod Entries
+pub mod ProtectedGrants
+pub mod ProtectedStates
+pub mod ProtectedReplies
+pub mod ProtectedCalls
+pub mod OwnOperations

@@ -1,0 +1,3 @@
+pub mod Protected
+pub mod OrderedStates
+pub mod OwnOperations

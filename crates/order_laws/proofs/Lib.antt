@@ -1,0 +1,10 @@
+mod Kept
+mod Behind
+mod Steps
+mod Opened
+mod Runs
+mod Grown
+mod Exclusive
+mod OneCommit
+mod OneAbort
+mod OneAppointment

@@ -1,5 +1,0 @@
-use Rattle.order_machine.proofs.OneCommit as run
-use Rattle.order_machine.proofs.laws.one_commit_is_whole.Goals as goal
-
-pub returns : goal.returns
-returns c = run.one_commit_is_whole

@@ -1,8 +1,0 @@
-use Rattle.std.proofs.Common.{◌≡◌, ◌+◌, drop}
-use Rattle.script_text.specs.Reading.{texts}
-use Rattle.order_machine.specs.ReadBack.{place_behind}
-use Rattle.order_machine.proofs.parsing.place_of.Given as goal
-
--- the place so far, and the words that are left, are all
-abbrev pub invariant-loop-word : goal.invariant-loop-word
-invariant-loop-word l = l.place + place_behind (texts (drop l.word-index l.front)) ≡ place_behind (texts l.front)
