@@ -1,2 +1,2 @@
 pub mod Effect
-pub mod Order
+pub mod Rows

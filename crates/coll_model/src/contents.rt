@@ -1,23 +1,18 @@
 ghost use Rattle.std.specs.Map.Iter.{ShowsInOrder, deref_pair};
-ghost use Rattle.std.specs.Prelude.{◌≡◌, ℕ, List, ◌↔◌, [], ◌∷◌, ◌++◌, length, drop, OnOk, OnErr, IsTrue, nat_eq, slice_get};
+ghost use Rattle.std.specs.Prelude.{◌≡◌, ℕ, List, ◌↔◌, [], ◌∷◌, ◌++◌, length, drop, IfOk, OnOk, OnErr, IsTrue, slice_get};
 ghost use Rattle.std.specs.Option.{option_copied};
-ghost use Rattle.std.specs.Cmp.{partial_equiv_from_equiv, partial_order_from_own_ties, partial_order_from_total};
-ghost use Rattle.std.specs.Cmp.Lexicographic.{pointwise, slice_cmp, lists_equiv, lists_total, lists_ties, nat_list_eq_equiv, nat_list_cmp_total, texts_ties};
-ghost use Rattle.std.specs.Ordering.{nat_cmp, as_partial_cmp};
-ghost use mathlib.Core.Path.{refl};
-ghost use Rattle.coll_model.specs.Order.{entries_eq, entries_cmp, entries_equiv, entries_total, entries_ties};
+ghost use Rattle.coll_model.specs.Rows.{rows_of, kind_of_rows};
 ghost use Rattle.coll_model.specs.Effect.{kind_of, fresh, at_key, with_key, without_key, put, del, push, pop};
 
 use crate::op::Kind;
-use rc_base::{Bytes, NoMemory};
+use crate::rows::Rows;
+use rc_base::{Bytes, NoMemory, Seq};
 use std::alloc::{AllocError, Global};
-use std::cmp::Ordering;
 use std::collections::btree_map::Iter;
 use std::collections::{BTreeMap, VecDeque};
 use std::marker::Model;
 
-/// The pairs of a dictionary, by rising key. Contracts see the list of (key, value). They are compared pair by pair, by key
-/// and then by value.
+/// The pairs of a dictionary, by rising key. Contracts see the list of (key, value).
 #[derive(Drop)]
 pub struct Pairs {
     pairs: BTreeMap<Bytes, Bytes>,
@@ -69,6 +64,17 @@ impl Pairs {
         self.pairs.iter()
     }
 
+    // Copies of the pairs, by rising key.
+    pub(crate) fn listed(&self, alloc: Global) -> Result<Seq<(Bytes, Bytes)>, NoMemory>
+        ensures { IfOk result (λ pairs. pairs ≡ self.now) }
+    {
+        let mut pairs = Seq::new(alloc);
+        for (key, value) in self.iter() {
+            pairs.push((key.clone()?, value.clone()?))?;
+        }
+        Ok(pairs)
+    }
+
     /// The key has the value.
     ///
     /// # Errors
@@ -100,45 +106,7 @@ impl Clone for Pairs {
     }
 }
 
-impl PartialEq for Pairs {
-    ghost eq = { entries_eq (pointwise nat_eq) };
-
-    ghost laws = { partial_equiv_from_equiv (entries_equiv nat_list_eq_equiv) };
-
-    fn eq(&self, other: &Pairs) -> bool {
-        self.pairs == other.pairs
-    }
-}
-
-impl Eq for Pairs {
-    ghost laws = { entries_equiv nat_list_eq_equiv };
-}
-
-impl PartialOrd for Pairs {
-    ghost partial_cmp = { as_partial_cmp (entries_cmp (slice_cmp nat_cmp)) };
-
-    ghost laws = { partial_order_from_own_ties (partial_order_from_total (entries_total nat_list_cmp_total)) (entries_ties (slice_cmp nat_cmp) texts_ties) };
-
-    fn partial_cmp(&self, other: &Pairs) -> Option<Ordering> {
-        Some(self.cmp(other))
-    }
-}
-
-impl Ord for Pairs {
-    ghost cmp = { entries_cmp (slice_cmp nat_cmp) };
-
-    ghost total = { entries_total nat_list_cmp_total };
-
-    ghost matches_partial_cmp = { λ x y. refl };
-
-    ghost matches_eq = { entries_ties (slice_cmp nat_cmp) texts_ties };
-
-    fn cmp(&self, other: &Pairs) -> Ordering {
-        self.pairs.cmp(&other.pairs)
-    }
-}
-
-/// The values of a queue, from head to tail. Contracts see the list of them. They are compared from the head on.
+/// The values of a queue, from head to tail. Contracts see the list of them.
 #[derive(Drop)]
 pub struct Values {
     values: VecDeque<Bytes>,
@@ -182,7 +150,14 @@ impl Values {
         self.values.is_empty()
     }
 
-    /// The value comes behind the tail.
+    // Copies of the values, from head to tail.
+    pub(crate) fn listed(&self) -> Result<Seq<Bytes>, NoMemory>
+        ensures { IfOk result (λ values. values ≡ self.now) }
+    {
+        Ok(Seq::from_vec(self.values.clone()?.into_vec()))
+    }
+
+    /// The value comes after the tail.
     ///
     /// # Errors
     /// `NoMemory`, and then the values are as before.
@@ -212,46 +187,8 @@ impl Clone for Values {
     }
 }
 
-impl PartialEq for Values {
-    ghost eq = { pointwise (pointwise nat_eq) };
-
-    ghost laws = { partial_equiv_from_equiv (lists_equiv nat_list_eq_equiv) };
-
-    fn eq(&self, other: &Values) -> bool {
-        self.values == other.values
-    }
-}
-
-impl Eq for Values {
-    ghost laws = { lists_equiv nat_list_eq_equiv };
-}
-
-impl PartialOrd for Values {
-    ghost partial_cmp = { as_partial_cmp (slice_cmp (slice_cmp nat_cmp)) };
-
-    ghost laws = { partial_order_from_own_ties (partial_order_from_total (lists_total nat_list_cmp_total)) (lists_ties (slice_cmp nat_cmp) texts_ties) };
-
-    fn partial_cmp(&self, other: &Values) -> Option<Ordering> {
-        Some(self.cmp(other))
-    }
-}
-
-impl Ord for Values {
-    ghost cmp = { slice_cmp (slice_cmp nat_cmp) };
-
-    ghost total = { lists_total nat_list_cmp_total };
-
-    ghost matches_partial_cmp = { λ x y. refl };
-
-    ghost matches_eq = { lists_ties (slice_cmp nat_cmp) texts_ties };
-
-    fn cmp(&self, other: &Values) -> Ordering {
-        self.values.cmp(&other.values)
-    }
-}
-
-/// What is in a collection. A dictionary comes before a queue.
-#[derive(Drop, PartialEq, Eq, PartialOrd, Ord)]
+/// What is in a collection.
+#[derive(Drop)]
 pub enum Contents {
     /// A dictionary's pairs, by rising key.
     Dict(Pairs),
@@ -280,6 +217,20 @@ impl Contents {
         }
     }
 
+    /// Copies of its items.
+    ///
+    /// # Errors
+    /// `NoMemory` where it is out of memory.
+    pub fn rows(&self, alloc: Global) -> Result<Rows, NoMemory>
+        ensures rows { IfOk result (λ rows. rows ≡ rows_of self.now) }
+        ensures kind { IfOk result (λ rows. kind_of_rows rows ≡ kind_of self.now) }
+    {
+        Ok(match self {
+            Contents::Dict(pairs) => Rows::Pairs(pairs.listed(alloc)?),
+            Contents::Queue(values) => Rows::Values(values.listed()?),
+        })
+    }
+
     // The key of a dictionary has the value. A queue stays.
     pub(crate) fn put(&mut self, key: &Bytes, value: &Bytes) -> Result<(), NoMemory>
         ensures ok { OnOk result (self.new ≡ put key.now value.now self.old) }
@@ -300,7 +251,7 @@ impl Contents {
         }
     }
 
-    // The value comes behind a queue's tail. A dictionary stays.
+    // The value comes after a queue's tail. A dictionary stays.
     pub(crate) fn push(&mut self, value: &Bytes) -> Result<(), NoMemory>
         ensures ok { OnOk result (self.new ≡ push value.now self.old) }
         ensures err { OnErr result (self.new ≡ self.old) }

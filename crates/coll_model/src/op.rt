@@ -1,10 +1,11 @@
 ghost use Rattle.std.specs.Prelude.{◌≡◌};
+ghost use Rattle.coll_model.specs.Rows.{kind_word};
 
-use rc_base::{Bytes, Name};
+use rc_base::{Bytes, Name, Seq};
 use std::alloc::AllocError;
 
 /// What a collection is.
-#[derive(Clone, Copy, Debug, PartialEq, Eq, PartialOrd, Ord)]
+#[derive(Clone, Copy, Debug, PartialEq, Eq)]
 pub enum Kind {
     /// A dictionary from keys to values.
     Dict,
@@ -12,8 +13,20 @@ pub enum Kind {
     Queue,
 }
 
+impl Kind {
+    /// What a script and a transcript call it.
+    pub fn word(self) -> &'static str
+        ensures { result.now ≡ kind_word self }
+    {
+        match self {
+            Kind::Dict => "dict",
+            Kind::Queue => "queue",
+        }
+    }
+}
+
 /// An operation on the collections. It is total: one that finds no collection of its name and kind changes nothing.
-#[derive(Debug, Drop, PartialEq, Eq, PartialOrd, Ord)]
+#[derive(Debug, Drop, PartialEq, Eq)]
 pub enum Op {
     /// A new, empty collection of the kind, where the name is absent.
     Make(Name, Kind),
@@ -23,11 +36,14 @@ pub enum Op {
     Put(Name, Bytes, Bytes),
     /// The key of the dictionary goes.
     Del(Name, Bytes),
-    /// The value comes behind the queue's tail.
+    /// The value comes after the queue's tail.
     Push(Name, Bytes),
     /// The queue's head goes, where it has one.
     Pop(Name),
 }
+
+/// Operations in order.
+pub type Ops = Seq<Op>;
 
 impl Clone for Op {
     ghost is_clone = { λ x y. y ≡ x };

@@ -1,29 +1,24 @@
 ghost use Rattle.std.specs.Map.Iter.{ShowsInOrder, deref_pair};
 ghost use Rattle.coll_model.specs.declared.contents.Contents.{Contents as ContentsValue};
-ghost use Rattle.std.specs.Prelude.{◌≡◌, ℕ, List, ◌↔◌, [], length, OnOk, OnErr, IsTrue};
+ghost use Rattle.std.specs.Prelude.{◌≡◌, ℕ, List, ◌↔◌, [], length, IfOk, OnOk, OnErr, IsTrue};
 ghost use Rattle.std.specs.Option.{option_copied};
 ghost use Rattle.std.specs.Map.{keys_of};
 ghost use Rattle.std.specs.List.Sorted.{IsStrictlySortedBy};
-ghost use Rattle.std.specs.Ordering.{nat_cmp, as_partial_cmp};
+ghost use Rattle.std.specs.Ordering.{nat_cmp};
 ghost use Rattle.std.specs.Cmp.Lexicographic.{slice_cmp};
-ghost use Rattle.std.specs.Cmp.{partial_equiv_from_equiv, partial_order_from_own_ties, partial_order_from_total};
-ghost use mathlib.Core.Path.{refl};
-ghost use Rattle.coll_model.specs.contracts.contents.ContentsEq.TheImpl.Laws.{laws-law as contents_equiv};
-ghost use Rattle.coll_model.specs.contracts.contents.ContentsOrd.TheImpl.Laws.{total-law as contents_total, matches_eq-law as contents_ties};
-ghost use Rattle.coll_model.specs.Order.{entries_eq, entries_cmp, entries_equiv, entries_total, entries_ties};
+ghost use Rattle.coll_model.specs.Rows as seen;
 ghost use Rattle.coll_model.specs.Effect.{effect, at_key, put, del, push, pop};
 
 use crate::contents::Contents;
 use crate::op::{Kind, Op};
+use crate::rows::{Collection, Image};
 use rc_base::{Bytes, Name, NoMemory};
 use std::alloc::{AllocError, Global};
-use std::cmp::Ordering;
 use std::collections::BTreeMap;
 use std::collections::btree_map::Iter;
 use std::marker::Model;
 
-/// The collections of a store, by rising name. Contracts see the list of (name, contents). States are compared collection by
-/// collection, by name and then by contents.
+/// The collections of a store, by rising name. Contracts see the list of (name, contents).
 #[derive(Drop)]
 pub struct State {
     collections: BTreeMap<Name, Contents>,
@@ -71,6 +66,20 @@ impl State {
         ensures runs { ShowsInOrder (deref_pair {K = List ℕ} {X = ContentsValue}) }
     {
         self.collections.iter()
+    }
+
+    /// Copies of the collections, by rising name.
+    ///
+    /// # Errors
+    /// `NoMemory` where it is out of memory.
+    pub fn image(&self) -> Result<Image, NoMemory>
+        ensures { IfOk result (λ image. image ≡ seen.image self.now) }
+    {
+        let mut image = Image::new(self.alloc);
+        for (name, contents) in self.iter() {
+            image.push(collection(self.alloc, name, contents)?)?;
+        }
+        Ok(image)
     }
 
     pub fn is_empty(&self) -> bool
@@ -130,6 +139,17 @@ impl State {
     }
 }
 
+// A copy of a collection.
+fn collection(alloc: Global, name: &Name, contents: &Contents) -> Result<Collection, NoMemory>
+    ensures { IfOk result (λ one. one ≡ seen.collection_of (name.now, contents.now)) }
+{
+    Ok(Collection {
+        name: name.clone()?,
+        kind: contents.kind(),
+        rows: contents.rows(alloc)?,
+    })
+}
+
 impl Clone for State {
     ghost is_clone = { λ x y. y ≡ x };
 
@@ -139,43 +159,5 @@ impl Clone for State {
             collections: self.collections.clone()?,
             alloc: self.alloc,
         })
-    }
-}
-
-impl PartialEq for State {
-    ghost eq = { entries_eq ⟦<Contents as PartialEq>⟧.eq };
-
-    ghost laws = { partial_equiv_from_equiv (entries_equiv contents_equiv) };
-
-    fn eq(&self, other: &State) -> bool {
-        self.collections == other.collections
-    }
-}
-
-impl Eq for State {
-    ghost laws = { entries_equiv contents_equiv };
-}
-
-impl PartialOrd for State {
-    ghost partial_cmp = { as_partial_cmp (entries_cmp ⟦<Contents as Ord>⟧.cmp) };
-
-    ghost laws = { partial_order_from_own_ties (partial_order_from_total (entries_total contents_total)) (entries_ties ⟦<Contents as Ord>⟧.cmp contents_ties) };
-
-    fn partial_cmp(&self, other: &State) -> Option<Ordering> {
-        Some(self.cmp(other))
-    }
-}
-
-impl Ord for State {
-    ghost cmp = { entries_cmp ⟦<Contents as Ord>⟧.cmp };
-
-    ghost total = { entries_total contents_total };
-
-    ghost matches_partial_cmp = { λ x y. refl };
-
-    ghost matches_eq = { entries_ties ⟦<Contents as Ord>⟧.cmp contents_ties };
-
-    fn cmp(&self, other: &State) -> Ordering {
-        self.collections.cmp(&other.collections)
     }
 }

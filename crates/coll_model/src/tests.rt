@@ -1,130 +1,125 @@
 use super::*;
-use rc_base::{Bytes, Name};
-use std::alloc::{AllocError, Global};
+use rc_base::{Bytes, Name, NoMemory};
+use std::alloc::Global;
 use std::test::*;
 
-fn name(alloc: Global, text: &[u8]) -> Result<Name, AllocError> {
-    Ok(Name::from_vec(Vec::from_slice(alloc, text)?))
+#[derive(Clone, Copy)]
+enum Verb {
+    Make(Kind),
+    Unmake,
+    Put,
+    Del,
+    Push,
+    Pop,
 }
 
-fn bytes(alloc: Global, text: &[u8]) -> Result<Bytes, AllocError> {
-    Ok(Bytes::from_vec(Vec::from_slice(alloc, text)?))
+// An operation: what it does, to which collection, and a key and a value where it has them.
+type Step = (Verb, &'static str, &'static str, &'static str);
+
+// What the operations leave, a line for each collection.
+const CASES: [(&[Step], &str); 4] = [
+    (
+        &[
+            (Verb::Make(Kind::Dict), "d", "", ""),
+            (Verb::Put, "d", "k", "v"),
+            (Verb::Put, "d", "j", "w"),
+            (Verb::Put, "d", "k", "x"),
+            (Verb::Make(Kind::Queue), "d", "", ""),
+        ],
+        "d dict j=w k=x\n",
+    ),
+    (
+        &[
+            (Verb::Make(Kind::Queue), "q", "", ""),
+            (Verb::Push, "q", "", "1"),
+            (Verb::Push, "q", "", "2"),
+            (Verb::Pop, "q", "", ""),
+            (Verb::Push, "q", "", "3"),
+            (Verb::Put, "q", "k", "v"),
+        ],
+        "q queue 2 3\n",
+    ),
+    (
+        &[
+            (Verb::Make(Kind::Dict), "b", "", ""),
+            (Verb::Make(Kind::Dict), "a", "", ""),
+            (Verb::Put, "a", "k", "v"),
+            (Verb::Push, "a", "", "1"),
+            (Verb::Del, "a", "k", ""),
+            (Verb::Make(Kind::Queue), "c", "", ""),
+            (Verb::Unmake, "b", "", ""),
+        ],
+        "a dict\nc queue\n",
+    ),
+    (
+        &[
+            (Verb::Put, "d", "k", "v"),
+            (Verb::Del, "d", "k", ""),
+            (Verb::Push, "d", "", "v"),
+            (Verb::Pop, "d", "", ""),
+            (Verb::Unmake, "d", "", ""),
+        ],
+        "",
+    ),
+];
+
+fn op_of(alloc: Global, (verb, name, key, value): &Step) -> Result<Op, NoMemory> {
+    let name = Name::from_slice(alloc, name.as_bytes())?;
+    let key = Bytes::from_slice(alloc, key.as_bytes())?;
+    let value = Bytes::from_slice(alloc, value.as_bytes())?;
+    Ok(match *verb {
+        Verb::Make(kind) => Op::Make(name, kind),
+        Verb::Unmake => Op::Unmake(name),
+        Verb::Put => Op::Put(name, key, value),
+        Verb::Del => Op::Del(name, key),
+        Verb::Push => Op::Push(name, value),
+        Verb::Pop => Op::Pop(name),
+    })
 }
 
-#[test]
-fn a_dictionary(rt: HostRuntime) -> Result<(), Fail> {
-    let alloc = rt.alloc();
-    let key = bytes(alloc, b"k")?;
+fn play(alloc: Global, step: &Step, state: &mut State) -> Result<(), NoMemory> {
+    let op = op_of(alloc, step)?.clone()?;
+    state.apply(&op)
+}
+
+fn played(alloc: Global, steps: &[Step]) -> Result<State, NoMemory> {
     let mut state = State::empty(alloc);
-    assert!(rt;
-        state
-            .apply(&Op::Make(name(alloc, b"d")?, Kind::Dict))
-            .is_ok()
-    );
-    assert!(rt;
-        state
-            .apply(&Op::Put(name(alloc, b"d")?, key.clone()?, bytes(alloc, b"v")?))
-            .is_ok()
-    );
-    assert!(rt;
-        state
-            .apply(&Op::Make(name(alloc, b"d")?, Kind::Queue))
-            .is_ok()
-    );
-    match state.get(&name(alloc, b"d")?) {
-        Some(Contents::Dict(pairs)) => {
-            assert_eq!(rt;
-                pairs.get(&key).map(|value| value.as_slice()),
-                Some(b"v".as_slice())
-            );
-        }
-        _ => assert!(rt; false),
+    for step in steps {
+        play(alloc, step, &mut state)?;
     }
+    Ok(state.clone()?)
+}
+
+fn write(collection: &Collection, words: &[Bytes], out: &mut Vec<u8>) -> Result<(), NoMemory> {
+    out.extend_from_slice(collection.name.as_slice())?;
+    out.push(b' ')?;
+    out.extend_from_slice(collection.kind.word().as_bytes())?;
+    for word in words {
+        out.push(b' ')?;
+        out.extend_from_slice(word.as_slice())?;
+    }
+    out.push(b'\n')?;
     Ok(())
 }
 
-#[test]
-fn a_queue(rt: HostRuntime) -> Result<(), Fail> {
-    let alloc = rt.alloc();
-    let mut ops = Ops::new(alloc);
-    ops.push(Op::Make(name(alloc, b"q")?, Kind::Queue))?;
-    ops.push(Op::Push(name(alloc, b"q")?, bytes(alloc, b"1")?))?;
-    ops.push(Op::Push(name(alloc, b"q")?, bytes(alloc, b"2")?))?;
-    ops.push(Op::Pop(name(alloc, b"q")?))?;
-    assert_eq!(rt; ops.len(), 4);
-    let mut state = State::empty(alloc);
-    for op in ops.clone()?.as_slice() {
-        assert!(rt; state.apply(op).is_ok());
-    }
-    match state.get(&name(alloc, b"q")?) {
-        Some(Contents::Queue(values)) => {
-            assert_eq!(rt;
-                values.get(0).map(|value| value.as_slice()),
-                Some(b"2".as_slice())
-            );
-            assert_eq!(rt; values.len(), 1);
-        }
-        _ => assert!(rt; false),
-    }
-    Ok(())
+fn tell(alloc: Global, collection: &Collection, out: &mut Vec<u8>) -> Result<(), NoMemory> {
+    let words = row_words(alloc, collection.rows.kind(), &collection.rows)?;
+    write(collection, words.as_slice(), out)
 }
 
-// A state with one dictionary that has one pair.
-fn with_pair(alloc: Global, dict: &[u8], key: &[u8], value: &[u8]) -> Result<State, Fail> {
-    let mut state = State::empty(alloc);
-    state.apply(&Op::Make(name(alloc, dict)?, Kind::Dict))?;
-    state.apply(&Op::Put(name(alloc, dict)?, bytes(alloc, key)?, bytes(alloc, value)?))?;
-    Ok(state)
-}
-
-// A state with one queue that has the values.
-fn with_values(alloc: Global, queue: &[u8], values: &[&[u8]]) -> Result<State, Fail> {
-    let mut state = State::empty(alloc);
-    state.apply(&Op::Make(name(alloc, queue)?, Kind::Queue))?;
-    for value in values {
-        state.apply(&Op::Push(name(alloc, queue)?, bytes(alloc, value)?))?;
+fn told(alloc: Global, steps: &[Step]) -> Result<Vec<u8>, NoMemory> {
+    let image = played(alloc, steps)?.image()?;
+    let mut out = Vec::new(alloc);
+    for collection in image.as_slice() {
+        tell(alloc, collection, &mut out)?;
     }
-    Ok(state)
+    Ok(out)
 }
 
 #[test]
-fn states_are_compared(rt: HostRuntime) -> Result<(), Fail> {
-    let alloc = rt.alloc();
-    let rising = [
-        State::empty(alloc),
-        with_pair(alloc, b"a", b"j", b"w")?,
-        with_pair(alloc, b"a", b"k", b"v")?,
-        with_pair(alloc, b"a", b"k", b"w")?,
-        with_values(alloc, b"a", &[])?,
-        with_values(alloc, b"a", &[b"1"])?,
-        with_values(alloc, b"a", &[b"1", b"2"])?,
-        with_values(alloc, b"a", &[b"2"])?,
-        with_pair(alloc, b"b", b"j", b"v")?,
-    ];
-    for pair in rising.windows(2) {
-        assert!(rt; pair[0] < pair[1] && pair[0] != pair[1]);
-        assert!(rt; pair[0] == pair[0].clone()?);
+fn operations_leave_collections(rt: HostRuntime) -> Result<(), Fail> {
+    for (steps, wanted) in CASES {
+        assert_eq!(rt; told(rt.alloc(), steps)?.as_slice(), wanted.as_bytes());
     }
-    Ok(())
-}
-
-// The value comes to a key of a dictionary.
-fn put(alloc: Global, value: &[u8]) -> Result<Op, AllocError> {
-    Ok(Op::Put(
-        name(alloc, b"a")?,
-        bytes(alloc, b"k")?,
-        bytes(alloc, value)?,
-    ))
-}
-
-#[test]
-fn operations_are_compared(rt: HostRuntime) -> Result<(), Fail> {
-    let alloc = rt.alloc();
-    let unmake = Op::Unmake(name(alloc, b"z")?);
-    let (lower, higher) = (put(alloc, b"v")?, put(alloc, b"w")?);
-    assert!(rt; unmake < lower);
-    assert!(rt; lower < higher);
-    assert!(rt; lower != higher);
-    assert!(rt; Kind::Dict < Kind::Queue);
     Ok(())
 }

@@ -1,3 +1,4 @@
+pub mod EpochOrder
 pub mod FieldLaws
 pub mod SameIds
 pub mod Twice

@@ -28,7 +28,7 @@ is_txn_same a = and_from (is_epoch a.epoch a.epoch) (eqb a.n a.n) (is_epoch_same
 eqb_flip : (a b : ℕ) → eqb a b ≡ eqb b a
 eqb_flip a b = grind (arith, nat_tests)
 
-is_txn_flip : (a b : TxnId) → is_txn a b ≡ is_txn b a
+pub is_txn_flip : (a b : TxnId) → is_txn a b ≡ is_txn b a
 is_txn_flip a b =
     ap₂ (λ (e : Bool) (n : Bool). e && n) (ap₂ (λ (l : Bool) (n : Bool). l && n) (eqb_flip a.epoch.loss b.epoch.loss) (eqb_flip a.epoch.number b.epoch.number)) (eqb_flip a.n b.n)
 

@@ -1,21 +1,18 @@
 -- On the first of a list that stands in it twice.
-use Rattle.std.proofs.Common.{◌≡◌, ◌∙◌, ℕ, List, [], ◌∷◌, Bool, true, false, cond, ◌||◌, Option, Some, None, refl, arith, eqb}
+use Rattle.std.proofs.Common.{◌≡◌, ◌∙◌, ℕ, List, [], ◌∷◌, Bool, true, false, cond, Option, Some, None, refl, arith, eqb}
 use Rattle.std.specs.List.{list_any, IsDistinct, AllByRecursion}
 use Rattle.std.specs.List.Sorted.{IsPermutation, IsNonDecreasing, IsStrictlyIncreasing}
+use Rattle.std.proofs.lemmas.Bool.{or_parts}
 use Rattle.std.proofs.lemmas.Bool.Decides.{nat_tests}
 use Rattle.std.proofs.lemmas.Map.Keys.{IsStrictlyIncreasing-from_distinct, IsDistinct-IsPermutation}
 use Rattle.rc_base.specs.Members.{first_twice}
-
-either : (a b : Bool) → (a || b) ≡ false → (a ≡ false) × (b ≡ false)
-either true b h = absurd (cc)
-either false b h = (refl, h)
 
 eqb_flip : (a b : ℕ) → eqb b a ≡ eqb a b
 eqb_flip a b = grind (arith, nat_tests)
 
 none_equal : (id : ℕ) (ids : List ℕ) → list_any (λ other. eqb other id) ids ≡ false → AllByRecursion (λ other. eqb id other ≡ false) ids
 none_equal id [] h = tt
-none_equal id (x ∷ xs) h = let s = either (eqb x id) (list_any (λ other. eqb other id) xs) h in (eqb_flip x id ∙ s.0, none_equal id xs s.1)
+none_equal id (x ∷ xs) h = let s = or_parts (eqb x id) (list_any (λ other. eqb other id) xs) h in (eqb_flip x id ∙ s.0, none_equal id xs s.1)
 
 step : (b : Bool) (x : ℕ) (r : Option ℕ) → cond b (Some x) r ≡ None → (b ≡ false) × (r ≡ None)
 step true x r h = absurd (cc)

@@ -4,7 +4,7 @@ use std::marker::Model;
 
 /// The number of a configuration's term: by data losses declared first, then by reconfigurations. Epochs are
 /// ordered by `loss` and then by `number`; 0.0 is the epoch before the first.
-#[derive(Clone, Copy, Debug, PartialEq, Eq, PartialOrd, Ord)]
+#[derive(Clone, Copy, Debug, PartialEq, Eq, PartialOrd, Ord, Hash)]
 pub struct Epoch {
     pub loss: u32,
     pub number: u32,
@@ -15,7 +15,7 @@ pub struct Epoch {
 pub struct Lsn(pub u64);
 
 /// A transaction: the epoch of the primary that began it, and its number among the begins of that epoch, from 1.
-#[derive(Clone, Copy, Debug, PartialEq, Eq, PartialOrd, Ord)]
+#[derive(Clone, Copy, Debug, PartialEq, Eq, PartialOrd, Ord, Hash)]
 pub struct TxnId {
     pub epoch: Epoch,
     pub n: u64,

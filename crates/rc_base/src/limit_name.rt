@@ -43,6 +43,10 @@ impl LimitName {
 }
 
 impl fmt::Display for LimitName {
+    ghost use Rattle.std.specs.Prelude.{Some};
+
+    ghost output = { λ limit. Some (limit_word limit) };
+
     fn fmt<W: fmt::Write>(&self, f: &mut fmt::Formatter<W>) -> fmt::Result {
         f.write_str(self.word())
     }

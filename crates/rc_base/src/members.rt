@@ -9,7 +9,7 @@ use std::marker::Model;
 use thiserror::Error;
 
 /// The members of a configuration: a rising list of replicas, so at most nine.
-#[derive(Debug, Drop)]
+#[derive(Drop)]
 pub struct Members {
     ids: Vec<ReplicaId>,
 }
@@ -31,7 +31,7 @@ pub enum MembersError {
     /// A replica stands in the list twice: the first that does.
     #[error("replica {} stands twice", .id.number())]
     Twice { id: ReplicaId },
-    /// Want of memory.
+    /// Out of memory.
     #[error("out of memory")]
     NoMemory,
 }
@@ -48,7 +48,7 @@ impl Members {
     /// The replicas of a list as members, by rising number.
     ///
     /// # Errors
-    /// `Twice` exactly where one stands twice, with the first that does; `NoMemory` for want of memory.
+    /// `Twice` exactly where one stands twice, with the first that does; `NoMemory` where it is out of memory.
     pub fn from_slice(alloc: Global, ids: &[ReplicaId]) -> Result<Members, MembersError>
         ensures members { IfOk result (λ m. AreMembers ids.now m) }
         ensures distinct { OnOk result (first_twice ids.now ≡ None) }
@@ -90,6 +90,16 @@ impl Members {
     }
 }
 
+impl Clone for Members {
+    ghost is_clone = { λ x y. y ≡ x };
+
+    fn clone(&self) -> Result<Members, AllocError> {
+        Ok(Members {
+            ids: self.ids.clone()?,
+        })
+    }
+}
+
 // The replicas of the list by rising number.
 fn sorted(alloc: Global, ids: &[ReplicaId]) -> Result<Vec<ReplicaId>, AllocError>
     ensures same { IfOk result (λ v. IsPermutation ids.now v.items) }
@@ -100,8 +110,8 @@ fn sorted(alloc: Global, ids: &[ReplicaId]) -> Result<Vec<ReplicaId>, AllocError
     Ok(sorted)
 }
 
-// The first of the list that stands again behind its place.
-fn find_twice(ids: &[ReplicaId]) -> Option<ReplicaId>
+/// The first of the list that stands again after its place, or none where each stands once.
+pub fn find_twice(ids: &[ReplicaId]) -> Option<ReplicaId>
     ensures { result ≡ first_twice ids.now }
 {
     let mut rest = ids;

@@ -4,7 +4,7 @@ ghost use Rattle.rc_base.specs.declared.no_memory.NoMemory.{NoMemory};
 use std::alloc::{AllocError, AllocFailed};
 use thiserror::Error;
 
-/// Want of memory: an allocation was refused. It may come at any call that allocates, and has no other cause.
+/// Out of memory: an allocation was refused. It may come at any call that allocates, and has no other cause.
 #[derive(Clone, Copy, Debug, PartialEq, Eq, Error)]
 #[error("out of memory")]
 pub struct NoMemory;

@@ -1,34 +1,60 @@
 use super::*;
+use std::alloc::Global;
 use std::test::*;
 
-fn replica(number: u8) -> Result<ReplicaId, Fail> {
-    Ok(ReplicaId::new(number).ok_or("a replica is below 9")?)
+fn replicas(alloc: Global, numbers: &[u8]) -> Result<Vec<ReplicaId>, Fail> {
+    let mut ids = Vec::new(alloc);
+    for number in numbers {
+        ids.push(ReplicaId::new(*number).ok_or("a replica is below 9")?)?;
+    }
+    Ok(ids)
 }
 
-// The number of the replica that stands twice, or 9.
-fn twice_in(error: &MembersError) -> u8 {
+fn has_numbers(members: &Members, numbers: &[u8]) -> bool {
+    let ids = members.as_slice();
+    members.len() == numbers.len()
+        && ids
+            .iter()
+            .zip(numbers)
+            .all(|(id, number)| id.number() == *number)
+}
+
+// Whether the members of the list, and a copy of them, are these.
+fn are_members(alloc: Global, given: &[u8], wanted: &[u8]) -> Result<bool, Fail> {
+    let members = Members::from_slice(alloc, &replicas(alloc, given)?)?;
+    Ok(has_numbers(&members, wanted) && has_numbers(&members.clone()?, wanted))
+}
+
+// The replica that stands twice by the error, or 9.
+fn number_in(error: MembersError) -> u8 {
     match error {
         MembersError::Twice { id } => id.number(),
         MembersError::NoMemory => 9,
     }
 }
 
+fn told_twice(alloc: Global, given: &[u8]) -> Result<Option<u8>, Fail> {
+    let ids = replicas(alloc, given)?;
+    Ok(Members::from_slice(alloc, &ids).err().map(number_in))
+}
+
 #[test]
 fn members_rise(rt: HostRuntime) -> Result<(), Fail> {
-    let (one, four) = (replica(1)?, replica(4)?);
-    let members = Members::from_slice(rt.alloc(), &[four, one])?;
-    assert_eq!(rt; members.len(), 2);
-    assert!(rt; members.contains(one));
-    assert_eq!(rt; members.as_slice().first().map(|id| id.number()), Some(1));
+    for (given, wanted) in [([4, 1, 8], [1, 4, 8]), ([0, 1, 2], [0, 1, 2])] {
+        assert!(rt; are_members(rt.alloc(), &given, &wanted)?);
+    }
     Ok(())
 }
 
 #[test]
 fn the_first_that_stands_twice(rt: HostRuntime) -> Result<(), Fail> {
-    let (one, four) = (replica(1)?, replica(4)?);
-    let members = Members::from_slice(rt.alloc(), &[four, one, one, four]);
-    let twice = members.err().map(|e| twice_in(&e));
-    assert_eq!(rt; twice, Some(4));
+    for (given, wanted) in [
+        ([4, 1, 1, 4], Some(4)),
+        ([0, 3, 3, 1], Some(3)),
+        ([0, 1, 2, 3], None),
+    ] {
+        assert_eq!(rt; told_twice(rt.alloc(), &given)?, wanted);
+    }
     Ok(())
 }
 
@@ -44,25 +70,59 @@ fn bytes_in_order(rt: HostRuntime) -> Result<(), Fail> {
     let low = Bytes::from_slice(rt.alloc(), b"ab")?;
     let high = Bytes::from_slice(rt.alloc(), b"b")?;
     assert!(rt; low < high);
-    assert_eq!(rt; low.as_slice(), b"ab".as_slice());
+    Ok(())
+}
+
+#[test]
+fn a_copy_of_a_name(rt: HostRuntime) -> Result<(), Fail> {
     let name = Name::from_slice(rt.alloc(), b"d")?;
     assert_eq!(rt; name.clone()?.into_vec().as_slice(), b"d".as_slice());
     Ok(())
 }
 
+fn listed(alloc: Global, numbers: &[u64]) -> Result<Seq<u64>, NoMemory> {
+    let mut list = Seq::new(alloc);
+    for number in numbers {
+        list.push(*number)?;
+    }
+    Ok(list.clone()?)
+}
+
 #[test]
-fn fields_again(rt: HostRuntime) -> Result<(), Fail> {
-    let mut out = Vec::new(rt.alloc());
+fn items_in_order(rt: HostRuntime) -> Result<(), Fail> {
+    assert_eq!(rt;
+        listed(rt.alloc(), &[7, 3, 7])?.as_slice(),
+        [7, 3, 7].as_slice()
+    );
+    Ok(())
+}
+
+// One field of each sort, the numbers with their highest byte first.
+const FIELDS: [u8; 37] = [
+    7, 0, 0, 1, 2, 0, 0, 0, 0, 0, 0, 0, 1, 0, 0, 0, 0, 0, 0, 0, 0, 0, 0, 0, 0, 0, 0, 0, 2, 0, 0, 0,
+    2, b'k', b'v', 1, b'd',
+];
+
+fn written(alloc: Global) -> Result<Vec<u8>, NoMemory> {
+    let mut out = Vec::new(alloc);
     put_u8(&mut out, 7)?;
     put_u32(&mut out, 258)?;
     put_u64(&mut out, 1)?;
     put_u128(&mut out, 2)?;
     put_bytes(&mut out, b"kv")?;
     put_short(&mut out, b"d")?;
-    assert_eq!(rt; out.len(), 37);
-    assert_eq!(rt; &out[..5], [7, 0, 0, 1, 2].as_slice());
-    assert_eq!(rt; &out[29..], [0, 0, 0, 2, b'k', b'v', 1, b'd'].as_slice());
-    let mut fields = Fields::new(&out);
+    Ok(out)
+}
+
+#[test]
+fn fields_written(rt: HostRuntime) -> Result<(), Fail> {
+    assert_eq!(rt; written(rt.alloc())?.as_slice(), FIELDS.as_slice());
+    Ok(())
+}
+
+#[test]
+fn fields_read(rt: HostRuntime) {
+    let mut fields = Fields::new(&FIELDS);
     assert_eq!(rt; fields.take_u8(), Ok(7));
     assert_eq!(rt; fields.take_u32(), Ok(258));
     assert_eq!(rt; fields.take_u64(), Ok(1));
@@ -71,7 +131,6 @@ fn fields_again(rt: HostRuntime) -> Result<(), Fail> {
     assert_eq!(rt; fields.take_bytes(2), Ok(b"kv".as_slice()));
     assert_eq!(rt; fields.take_short(255), Ok(b"d".as_slice()));
     assert_eq!(rt; fields.take_u8(), Err(Bad { at: 37 }));
-    Ok(())
 }
 
 #[test]
@@ -88,8 +147,7 @@ fn names_of_collections(rt: HostRuntime) {
 
 #[test]
 fn limits_print_their_words(rt: HostRuntime) -> Result<(), Fail> {
-    assert_eq!(rt; LimitName::Names.word(), "names");
-    let text = format!(in rt.alloc(); "{} {}", LimitName::Lines, LimitName::Lsn)?;
-    assert_eq!(rt; text.as_str(), "lines lsn");
+    let text = format!(in rt.alloc(); "{} {}", LimitName::Names, LimitName::Lsn)?;
+    assert_eq!(rt; text.as_str(), "names lsn");
     Ok(())
 }
