@@ -3,7 +3,7 @@ use rc_base::{Bytes, Epoch, ReplicaId, TxnId};
 
 /// The answer to an event, or to a client's call. There is one variant for each answer that is built so far, with its
 /// words as fields.
-#[derive(Debug, Drop)]
+#[derive(Drop)]
 pub enum Answer {
     /// A begin: this transaction begins.
     Txn(TxnId),
@@ -40,7 +40,7 @@ pub enum Answer {
 }
 
 /// The answer to a client's call, and the operation that it logs, if any.
-#[derive(Debug, Drop)]
+#[derive(Drop)]
 pub struct Reply {
     pub answer: Answer,
     pub op: Option<Op>,

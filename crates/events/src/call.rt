@@ -1,5 +1,4 @@
 ghost use Rattle.std.specs.Prelude.{◌≡◌};
-ghost use Rattle.std.specs.Option.{option_copied};
 ghost use Rattle.events.specs.Calls as spec;
 
 use coll_model::Kind;
@@ -7,7 +6,7 @@ use rc_base::{Bytes, Name, TxnId};
 use std::alloc::AllocError;
 
 /// What a client asks of a replica R.
-#[derive(Debug, Drop)]
+#[derive(Drop)]
 pub enum Call {
     /// `begin R`: begins a transaction.
     Begin,
@@ -22,7 +21,7 @@ pub enum Call {
 }
 
 /// What is asked of a key of a dictionary.
-#[derive(Debug, Drop)]
+#[derive(Drop)]
 pub enum KeyCall {
     /// `get R T NAME KEY`: its value.
     Get,

@@ -8,9 +8,11 @@ use Rattle.rc_base.specs.declared.ids.TxnId.{TxnId}
 use Rattle.events.specs.declared.event.Event.{Event}
 use Rattle.events.specs.declared.event.Event.TheVariants.{Boot, Client, Arm, Crash, Reboot, Inspect, Survey, Appoint, Activate}
 use Rattle.events.specs.declared.call.Call.{Call}
-use Rattle.events.specs.declared.call.Call.TheVariants.{Begin, Make, Get, GetForUpdate, Set, Add, Delete, Commit, Abort}
+use Rattle.events.specs.declared.call.Call.TheVariants.{Begin, Make, OnKey, Commit, Abort}
 use Rattle.order_machine.specs.declared.observation.Observation.{Observation}
 use Rattle.order_machine.specs.declared.observation.Observation.TheVariants as says
+use Rattle.events.specs.declared.answer.Answer.{Answer}
+use Rattle.events.specs.declared.answer.Answer.TheVariants as answers
 use Rattle.events.specs.declared.answer.Reply.{Reply}
 use Rattle.key_locks.specs.Grants.{released}
 use Rattle.events.specs.Locking.{locks_at, taken}
@@ -88,31 +90,23 @@ exclude_noted m t call all = by (txn_of m t)
     by None = all
     by (Some x) = all
 
-exclude_begun : (m : Machine) (r : ℕ) (o : Observation) → LocksExclude m → LocksExclude (begun_by m r o)
-exclude_begun m r (says.Txn t) all = exclude_put m r (record (replica m r) { role = option_map one_more_begun (role_of m r) }) all (all r)
-exclude_begun m r (says.Up q) all = all
-exclude_begun m r (says.Order t ops) all = all
-exclude_begun m r (says.View q n) all = all
-exclude_begun m r (says.Active q) all = all
-exclude_begun m r (says.Committed t) all = all
-exclude_begun m r says.Done all = all
-exclude_begun m r (says.Refused part) all = all
-exclude_begun m r (says.Down q) all = all
-exclude_begun m r (says.NotActive q) all = all
-exclude_begun m r (says.Ended t) all = all
-exclude_begun m r (says.Locked t) all = all
-exclude_begun m r says.True all = all
-exclude_begun m r says.False all = all
-exclude_begun m r (says.Value value) all = all
-exclude_begun m r says.Missing all = all
-exclude_begun m r says.Absent all = all
-exclude_begun m r says.WrongKind all = all
-exclude_begun m r (says.Fault q) all = all
-exclude_begun m r says.IgnoredUp all = all
-exclude_begun m r (says.IgnoredOldEpoch fence e) all = all
-exclude_begun m r (says.Progress q e last) all = all
-exclude_begun m r (says.State q n) all = all
-exclude_begun m r (says.Rows words) all = all
+exclude_begun : (m : Machine) (r : ℕ) (told : Answer) → LocksExclude m → LocksExclude (begun_by m r told)
+exclude_begun m r (answers.Txn t) all = exclude_put m r (record (replica m r) { role = option_map one_more_begun (role_of m r) }) all (all r)
+exclude_begun m r answers.Done all = all
+exclude_begun m r answers.True all = all
+exclude_begun m r answers.False all = all
+exclude_begun m r (answers.Value value) all = all
+exclude_begun m r answers.Missing all = all
+exclude_begun m r answers.Absent all = all
+exclude_begun m r answers.WrongKind all = all
+exclude_begun m r (answers.Ended t) all = all
+exclude_begun m r (answers.Locked t) all = all
+exclude_begun m r (answers.NotActive q) all = all
+exclude_begun m r (answers.Down q) all = all
+exclude_begun m r (answers.Refused part) all = all
+exclude_begun m r (answers.Progress q e last) all = all
+exclude_begun m r answers.IgnoredUp all = all
+exclude_begun m r (answers.IgnoredOldEpoch fence e) all = all
 
 exclude_answered : (m : Machine) (event : Event) (reply : Reply) → LocksExclude m → LocksExclude (answered_by m event reply)
 exclude_answered m (Boot p members) reply all = all
@@ -129,8 +123,12 @@ exclude_answered m (Client r call) reply all = by_name (txn_named call)
     by_name None = exclude_begun m r reply.answer all
     by_name (Some t) = exclude_noted m t (record { call = call; answer = reply.answer; op = reply.op }) all
 
-exclude_answer : (p : Position) (o : Observation) → LocksExclude p.machine → LocksExclude (answering p o).machine
-exclude_answer p o all = exclude_answered p.machine p.event (record { answer = o; op = option_and_then (λ reply. reply.op) p.client }) all
+exclude_client : (m : Machine) (event : Event) (client : Option Reply) → LocksExclude m → LocksExclude (option_map_or (answered_by m event) client m)
+exclude_client m event None all = all
+exclude_client m event (Some reply) all = exclude_answered m event reply all
+
+exclude_answer : (p : Position) → LocksExclude p.machine → LocksExclude (answering p).machine
+exclude_answer p all = exclude_client p.machine p.event p.client all
 
 -- ---- lines
 
@@ -148,22 +146,22 @@ exclude_line p (says.Active r) all = exclude_active p.machine r (role_of p.machi
 exclude_line p (says.Committed t) all =
     let grants = released (grants_of p.machine p.primary) t in
     exclude_put p.machine p.primary (record (replica p.machine p.primary) { grants = grants }) all (AreExclusive-released (grants_of p.machine p.primary) t (all p.primary))
-exclude_line p says.Done all = exclude_answer p says.Done all
-exclude_line p (says.Refused part) all = exclude_answer p (says.Refused part) all
-exclude_line p (says.Txn t) all = exclude_answer p (says.Txn t) all
-exclude_line p (says.Down r) all = exclude_answer p (says.Down r) all
-exclude_line p (says.NotActive r) all = exclude_answer p (says.NotActive r) all
-exclude_line p (says.Ended t) all = exclude_answer p (says.Ended t) all
-exclude_line p (says.Locked t) all = exclude_answer p (says.Locked t) all
-exclude_line p says.True all = exclude_answer p says.True all
-exclude_line p says.False all = exclude_answer p says.False all
-exclude_line p (says.Value value) all = exclude_answer p (says.Value value) all
-exclude_line p says.Missing all = exclude_answer p says.Missing all
-exclude_line p says.Absent all = exclude_answer p says.Absent all
-exclude_line p says.WrongKind all = exclude_answer p says.WrongKind all
+exclude_line p says.Done all = exclude_answer p all
+exclude_line p (says.Refused part) all = exclude_answer p all
+exclude_line p (says.Txn t) all = exclude_answer p all
+exclude_line p (says.Down r) all = exclude_answer p all
+exclude_line p (says.NotActive r) all = exclude_answer p all
+exclude_line p (says.Ended t) all = exclude_answer p all
+exclude_line p (says.Locked t) all = exclude_answer p all
+exclude_line p says.True all = exclude_answer p all
+exclude_line p says.False all = exclude_answer p all
+exclude_line p (says.Value value) all = exclude_answer p all
+exclude_line p says.Missing all = exclude_answer p all
+exclude_line p says.Absent all = exclude_answer p all
+exclude_line p says.WrongKind all = exclude_answer p all
 exclude_line p (says.Fault r) all = exclude_first_role (failed p.machine p.event r) p.event (drop 1 p.mounts) (exclude_failed p.machine p.event r all)
-exclude_line p says.IgnoredUp all = exclude_answer p says.IgnoredUp all
-exclude_line p (says.IgnoredOldEpoch fence e) all = exclude_answer p (says.IgnoredOldEpoch fence e) all
+exclude_line p says.IgnoredUp all = exclude_answer p all
+exclude_line p (says.IgnoredOldEpoch fence e) all = exclude_answer p all
 exclude_line p (says.Progress r e last) all = exclude_surveyed p.machine p.event r e last all
 exclude_line p (says.State r n) all = all
 exclude_line p (says.Rows words) all = all
@@ -183,11 +181,7 @@ exclude_locks m r t call all =
 exclude_asking : (m : Machine) (r : ℕ) (call : Call) → LocksExclude m → LocksExclude (asking m r call)
 exclude_asking m r Begin all = all
 exclude_asking m r (Make t name kind) all = exclude_locks m r t (Make t name kind) all
-exclude_asking m r (Get t name key) all = exclude_locks m r t (Get t name key) all
-exclude_asking m r (GetForUpdate t name key) all = exclude_locks m r t (GetForUpdate t name key) all
-exclude_asking m r (Set t name key value) all = exclude_locks m r t (Set t name key value) all
-exclude_asking m r (Add t name key value) all = exclude_locks m r t (Add t name key value) all
-exclude_asking m r (Delete t name key) all = exclude_locks m r t (Delete t name key) all
+exclude_asking m r (OnKey t name key call) all = exclude_locks m r t (OnKey t name key call) all
 exclude_asking m r (Commit t) all = exclude_going m (λ x. put_txn m t (record x { live = false; asked = true })) all (λ x. all) (going_at m r t)
 exclude_asking m r (Abort t) all =
     exclude_going m (λ x. put_txn (put_grants m r (released (grants_of m r) t)) t (record x { live = false })) all

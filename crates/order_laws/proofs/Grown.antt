@@ -10,9 +10,11 @@ use Rattle.coll_model.specs.declared.op.Op.{Op}
 use Rattle.events.specs.declared.event.Event.{Event}
 use Rattle.events.specs.declared.event.Event.TheVariants.{Boot, Client, Arm, Crash, Reboot, Inspect, Survey, Appoint, Activate}
 use Rattle.events.specs.declared.call.Call.{Call}
-use Rattle.events.specs.declared.call.Call.TheVariants.{Begin, Make, Get, GetForUpdate, Set, Add, Delete, Commit, Abort}
+use Rattle.events.specs.declared.call.Call.TheVariants.{Begin, Make, OnKey, Commit, Abort}
 use Rattle.order_machine.specs.declared.observation.Observation.{Observation}
 use Rattle.order_machine.specs.declared.observation.Observation.TheVariants as says
+use Rattle.events.specs.declared.answer.Answer.{Answer}
+use Rattle.events.specs.declared.answer.Answer.TheVariants as answers
 use Rattle.events.specs.declared.answer.Reply.{Reply}
 use Rattle.key_locks.specs.Grants.{released}
 use Rattle.events.specs.Locking.{locks_at, taken}
@@ -58,31 +60,23 @@ same_active : (m : Machine) (r : ℕ) (o : Option Role) → (option_map_or (acti
 same_active m r None = refl
 same_active m r (Some role) = refl
 
-same_begun : (m : Machine) (r : ℕ) (o : Observation) → (begun_by m r o).orders ≡ m.orders
-same_begun m r (says.Txn t) = refl
-same_begun m r (says.Up q) = refl
-same_begun m r (says.Order t ops) = refl
-same_begun m r (says.View q n) = refl
-same_begun m r (says.Active q) = refl
-same_begun m r (says.Committed t) = refl
-same_begun m r says.Done = refl
-same_begun m r (says.Refused part) = refl
-same_begun m r (says.Down q) = refl
-same_begun m r (says.NotActive q) = refl
-same_begun m r (says.Ended t) = refl
-same_begun m r says.True = refl
-same_begun m r says.False = refl
-same_begun m r (says.Value value) = refl
-same_begun m r says.Missing = refl
-same_begun m r says.Absent = refl
-same_begun m r says.WrongKind = refl
-same_begun m r (says.Fault q) = refl
-same_begun m r says.IgnoredUp = refl
-same_begun m r (says.State q n) = refl
-same_begun m r (says.Rows words) = refl
-same_begun m r (says.Locked t) = refl
-same_begun m r (says.IgnoredOldEpoch fence e) = refl
-same_begun m r (says.Progress q e last) = refl
+same_begun : (m : Machine) (r : ℕ) (told : Answer) → (begun_by m r told).orders ≡ m.orders
+same_begun m r (answers.Txn t) = refl
+same_begun m r answers.Done = refl
+same_begun m r answers.True = refl
+same_begun m r answers.False = refl
+same_begun m r (answers.Value value) = refl
+same_begun m r answers.Missing = refl
+same_begun m r answers.Absent = refl
+same_begun m r answers.WrongKind = refl
+same_begun m r (answers.Ended t) = refl
+same_begun m r (answers.Locked t) = refl
+same_begun m r (answers.NotActive q) = refl
+same_begun m r (answers.Down q) = refl
+same_begun m r (answers.Refused part) = refl
+same_begun m r (answers.Progress q e last) = refl
+same_begun m r answers.IgnoredUp = refl
+same_begun m r (answers.IgnoredOldEpoch fence e) = refl
 
 same_answered_at : (m : Machine) (r : ℕ) (call : Call) (reply : Reply) (named : Option TxnId) → (option_map_or (λ t. noted m t (record { call = call; answer = reply.answer; op = reply.op })) named (begun_by m r reply.answer)).orders ≡ m.orders
 same_answered_at m r call reply None = same_begun m r reply.answer
@@ -135,8 +129,12 @@ same_surveyed m (Survey p of) r e last = refl
 same_surveyed m (Appoint of p members) r e last = refl
 same_surveyed m (Activate of) r e last = refl
 
-grow_answer : (p : Position) (o : Observation) → OrdersGrow p.machine (answering p o).machine
-grow_answer p o = grow_same p.machine (answering p o).machine (same_answered p.machine p.event (record { answer = o; op = option_and_then (λ reply. reply.op) p.client }))
+same_client : (m : Machine) (event : Event) (client : Option Reply) → (option_map_or (answered_by m event) client m).orders ≡ m.orders
+same_client m event None = refl
+same_client m event (Some reply) = same_answered m event reply
+
+grow_answer : (p : Position) → OrdersGrow p.machine (answering p).machine
+grow_answer p = grow_same p.machine (answering p).machine (same_client p.machine p.event p.client)
 
 grow_line : (p : Position) (o : Observation) → OrdersGrow p.machine (after p o).machine
 grow_line p (says.Order t ops) = grow_ordering p.machine p.primary t ops
@@ -145,24 +143,24 @@ grow_line p (says.View r n) = grow_same p.machine (after p (says.View r n)).mach
 grow_line p (says.Active r) = grow_same p.machine (now_active p.machine r) (same_active p.machine r (role_of p.machine r))
 grow_line p (says.Up r) = grow_same p.machine (after p (says.Up r)).machine refl
 grow_line p (says.Committed t) = grow_same p.machine (after p (says.Committed t)).machine refl
-grow_line p says.Done = grow_answer p says.Done
-grow_line p (says.Refused part) = grow_answer p (says.Refused part)
-grow_line p (says.Txn t) = grow_answer p (says.Txn t)
-grow_line p (says.Down r) = grow_answer p (says.Down r)
-grow_line p (says.NotActive r) = grow_answer p (says.NotActive r)
-grow_line p (says.Ended t) = grow_answer p (says.Ended t)
-grow_line p says.True = grow_answer p says.True
-grow_line p says.False = grow_answer p says.False
-grow_line p (says.Value value) = grow_answer p (says.Value value)
-grow_line p says.Missing = grow_answer p says.Missing
-grow_line p says.Absent = grow_answer p says.Absent
-grow_line p says.WrongKind = grow_answer p says.WrongKind
+grow_line p says.Done = grow_answer p
+grow_line p (says.Refused part) = grow_answer p
+grow_line p (says.Txn t) = grow_answer p
+grow_line p (says.Down r) = grow_answer p
+grow_line p (says.NotActive r) = grow_answer p
+grow_line p (says.Ended t) = grow_answer p
+grow_line p says.True = grow_answer p
+grow_line p says.False = grow_answer p
+grow_line p (says.Value value) = grow_answer p
+grow_line p says.Missing = grow_answer p
+grow_line p says.Absent = grow_answer p
+grow_line p says.WrongKind = grow_answer p
 grow_line p (says.Fault r) = grow_same p.machine (after p (says.Fault r)).machine (same_first_role (failed p.machine p.event r) p.event (drop 1 p.mounts) ∙ same_failed p.machine p.event r)
-grow_line p says.IgnoredUp = grow_answer p says.IgnoredUp
+grow_line p says.IgnoredUp = grow_answer p
 grow_line p (says.State r n) = grow_same p.machine p.machine refl
 grow_line p (says.Rows words) = grow_same p.machine p.machine refl
-grow_line p (says.Locked t) = grow_answer p (says.Locked t)
-grow_line p (says.IgnoredOldEpoch fence e) = grow_answer p (says.IgnoredOldEpoch fence e)
+grow_line p (says.Locked t) = grow_answer p
+grow_line p (says.IgnoredOldEpoch fence e) = grow_answer p
 grow_line p (says.Progress r e last) = grow_same p.machine (surveyed p.machine p.event r e last) (same_surveyed p.machine p.event r e last)
 
 -- ---- events and runs
@@ -177,11 +175,7 @@ same_asking_locks m r t call = same_going m (λ x. put_grants m r (taken (grants
 same_asking : (m : Machine) (r : ℕ) (call : Call) → (asking m r call).orders ≡ m.orders
 same_asking m r Begin = refl
 same_asking m r (Make t name kind) = same_asking_locks m r t (Make t name kind)
-same_asking m r (Get t name key) = same_asking_locks m r t (Get t name key)
-same_asking m r (GetForUpdate t name key) = same_asking_locks m r t (GetForUpdate t name key)
-same_asking m r (Set t name key value) = same_asking_locks m r t (Set t name key value)
-same_asking m r (Add t name key value) = same_asking_locks m r t (Add t name key value)
-same_asking m r (Delete t name key) = same_asking_locks m r t (Delete t name key)
+same_asking m r (OnKey t name key call) = same_asking_locks m r t (OnKey t name key call)
 same_asking m r (Commit t) = same_going m (λ x. put_txn m t (record x { live = false; asked = true })) (λ x. refl) (going_at m r t)
 same_asking m r (Abort t) = same_going m (λ x. put_txn (put_grants m r (released (grants_of m r) t)) t (record x { live = false })) (λ x. refl) (going_at m r t)
 

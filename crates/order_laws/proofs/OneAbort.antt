@@ -2,7 +2,8 @@
 use Rattle.std.proofs.Common.{[], ◌∷◌, refl}
 use Rattle.coll_model.specs.declared.op.Kind.TheVariants as kinds
 use Rattle.events.specs.declared.event.Event.TheVariants.{Client}
-use Rattle.events.specs.declared.call.Call.TheVariants.{Begin, Make, Get, Set, Abort}
+use Rattle.events.specs.declared.call.Call.TheVariants.{Begin, Make, OnKey, Abort}
+use Rattle.events.specs.declared.call.KeyCall.TheVariants.{Get, Set}
 use Rattle.order_machine.specs.declared.observation.Observation.TheVariants as says
 use Rattle.order_machine.specs.Machine.{Machine, empty_machine, replica}
 use Rattle.order_machine.specs.Legal.{IsWhole, AreWhole, moved}
@@ -24,9 +25,9 @@ whole_make = record {
 -- ---- a value is written
 
 abbrev written : Machine
-written = moved made (Client 0 (Set first_txn (100 ∷ []) (107 ∷ []) (118 ∷ []))) (says.Done ∷ [])
+written = moved made (Client 0 (OnKey first_txn (100 ∷ []) (107 ∷ []) (Set (118 ∷ [])))) (says.Done ∷ [])
 
-whole_set : IsWhole made (Client 0 (Set first_txn (100 ∷ []) (107 ∷ []) (118 ∷ []))) (says.Done ∷ [])
+whole_set : IsWhole made (Client 0 (OnKey first_txn (100 ∷ []) (107 ∷ []) (Set (118 ∷ [])))) (says.Done ∷ [])
 whole_set = record {
   may = (record { named = refl; in_rank = refl; next = refl; goes_on = refl; row = (refl, refl) }, tt);
   complete = record { opened = refl; grown = refl; mounted = refl; told = refl; answered = refl };
@@ -48,9 +49,9 @@ whole_second = record {
 -- ---- it is locked out
 
 abbrev locked : Machine
-locked = moved both (Client 0 (Get second_txn (100 ∷ []) (107 ∷ []))) (says.Locked first_txn ∷ [])
+locked = moved both (Client 0 (OnKey second_txn (100 ∷ []) (107 ∷ []) Get)) (says.Locked first_txn ∷ [])
 
-whole_locked : IsWhole both (Client 0 (Get second_txn (100 ∷ []) (107 ∷ []))) (says.Locked first_txn ∷ [])
+whole_locked : IsWhole both (Client 0 (OnKey second_txn (100 ∷ []) (107 ∷ []) Get)) (says.Locked first_txn ∷ [])
 whole_locked = record {
   may = (record { named = refl; in_rank = refl; next = refl; goes_on = refl; row = (refl, refl) }, tt);
   complete = record { opened = refl; grown = refl; mounted = refl; told = refl; answered = refl };
@@ -72,9 +73,9 @@ whole_abort = record {
 -- ---- nothing is there
 
 abbrev read : Machine
-read = moved aborted (Client 0 (Get second_txn (100 ∷ []) (107 ∷ []))) (says.Absent ∷ [])
+read = moved aborted (Client 0 (OnKey second_txn (100 ∷ []) (107 ∷ []) Get)) (says.Absent ∷ [])
 
-whole_read : IsWhole aborted (Client 0 (Get second_txn (100 ∷ []) (107 ∷ []))) (says.Absent ∷ [])
+whole_read : IsWhole aborted (Client 0 (OnKey second_txn (100 ∷ []) (107 ∷ []) Get)) (says.Absent ∷ [])
 whole_read = record {
   may = (record { named = refl; in_rank = refl; next = refl; goes_on = refl; row = (refl, refl) }, tt);
   complete = record { opened = refl; grown = refl; mounted = refl; told = refl; answered = refl };

@@ -14,8 +14,8 @@ use Rattle.coll_model.specs.declared.op.Op.{Op}
 use Rattle.events.specs.declared.event.Event.{Event}
 use Rattle.events.specs.declared.event.Event.TheVariants.{Boot, Client, Arm, Crash, Reboot, Inspect, Survey, Appoint, Activate}
 use Rattle.events.specs.declared.call.Call.{Call}
-use Rattle.events.specs.declared.call.Call.TheVariants.{Begin, Make, Get, GetForUpdate, Set, Add, Delete, Commit, Abort}
-use Rattle.order_machine.specs.declared.observation.Observation.TheVariants as says
+use Rattle.events.specs.declared.call.Call.TheVariants.{Begin, Make, OnKey, Commit, Abort}
+use Rattle.events.specs.declared.answer.Answer.TheVariants as answers
 use Rattle.events.specs.declared.answer.Reply.{Reply}
 use Rattle.key_locks.specs.Grants.{released}
 use Rattle.config_rule.specs.Rule.{are_members}
@@ -33,7 +33,7 @@ use Rattle.order_laws.proofs.Steps.{KeptAt, IsCalling}
 -- ---- boot
 
 -- a boot that isn't refused is the first
-first_boot : (booted members : Bool) → cond booted (Some (says.Refused 9)) (cond members None (Some (says.Refused 2))) ≡ None → booted ≡ false
+first_boot : (booted members : Bool) → cond booted (Some (answers.Refused 9)) (cond members None (Some (answers.Refused 2))) ≡ None → booted ≡ false
 first_boot true members h = absurd (cc)
 first_boot false members h = refl
 
@@ -110,11 +110,7 @@ kept_asking_locks m k r t call = asked (going_at m r t)
 kept_asking : (m : Machine) (k : Kept m) (r : ℕ) (call : Call) → Kept (asking m r call)
 kept_asking m k r Begin = k
 kept_asking m k r (Make t name kind) = kept_asking_locks m k r t (Make t name kind)
-kept_asking m k r (Get t name key) = kept_asking_locks m k r t (Get t name key)
-kept_asking m k r (GetForUpdate t name key) = kept_asking_locks m k r t (GetForUpdate t name key)
-kept_asking m k r (Set t name key value) = kept_asking_locks m k r t (Set t name key value)
-kept_asking m k r (Add t name key value) = kept_asking_locks m k r t (Add t name key value)
-kept_asking m k r (Delete t name key) = kept_asking_locks m k r t (Delete t name key)
+kept_asking m k r (OnKey t name key call) = kept_asking_locks m k r t (OnKey t name key call)
 kept_asking m k r (Commit t) = kept_asking_commit m k r t
 kept_asking m k r (Abort t) = kept_asking_abort m k r t
 
@@ -130,7 +126,7 @@ same_txns m r t call = asked (going_at m r t)
 abbrev op_of : Option Reply → Option Op
 op_of o = option_and_then (λ reply. reply.op) o
 
-op_served : (up active : Bool) (r : ℕ) (o : Option Reply) → op_of o ≡ None → op_of (cond (not up) (Some (plain (says.Down r))) (cond (not active) (Some (plain (says.NotActive r))) o)) ≡ None
+op_served : (up active : Bool) (r : ℕ) (o : Option Reply) → op_of o ≡ None → op_of (cond (not up) (Some (plain (answers.Down r))) (cond (not active) (Some (plain (answers.NotActive r))) o)) ≡ None
 op_served false active r o h = refl
 op_served true false r o h = refl
 op_served true true r o h = h
@@ -139,8 +135,8 @@ op_served true true r o h = h
 logs_nothing : (m : Machine) (k : Kept m) (r : ℕ) (call : Call) (t : TxnId) (x : Txn) → txn_named call ≡ Some t → txn_of m t ≡ Some x → x.asked ≡ true → op_of (answer m r call) ≡ None
 logs_nothing m k r call t x named known asked =
     op_served (replica m r).up (is_active m r) r (served m r call)
-    (ap (λ o. op_of (option_map_or (λ u. option_map_or (λ y. live_reply (grants_of m r) (seen m r y) u call) (live_txn m r u) (Some (plain (says.Ended u)))) o (Some (plain (says.Txn (next_txn (role_of m r))))))) named
-    ∙ ap (λ o. op_of (option_map_or (λ y. live_reply (grants_of m r) (seen m r y) t call) o (Some (plain (says.Ended t))))) not_live)
+    (ap (λ o. op_of (option_map_or (λ u. option_map_or (λ y. live_reply (grants_of m r) (seen m r y) u call) (live_txn m r u) (Some (plain (answers.Ended u)))) o (Some (plain (answers.Txn (next_txn (role_of m r))))))) named
+    ∙ ap (λ o. op_of (option_map_or (λ y. live_reply (grants_of m r) (seen m r y) t call) o (Some (plain (answers.Ended t))))) not_live)
   where
     by_live : (live here : Bool) → (live ≡ true → ⊥) → (live && here) ≡ false
     by_live true here h = absurd (h refl)
@@ -154,14 +150,14 @@ logs_nothing m k r call t x named known asked =
 no_op_of_commit : (m : Machine) (r : ℕ) (t : TxnId) → op_of (answer m r (Commit t)) ≡ None
 no_op_of_commit m r t = op_served (replica m r).up (is_active m r) r (served m r (Commit t)) (by_live (live_txn m r t))
   where
-    by_live : (o : Option Txn) → op_of (option_map_or (λ y. None) o (Some (plain (says.Ended t)))) ≡ None
+    by_live : (o : Option Txn) → op_of (option_map_or (λ y. None) o (Some (plain (answers.Ended t)))) ≡ None
     by_live None = refl
     by_live (Some y) = refl
 
 no_op_of_abort : (m : Machine) (r : ℕ) (t : TxnId) → op_of (answer m r (Abort t)) ≡ None
 no_op_of_abort m r t = op_served (replica m r).up (is_active m r) r (served m r (Abort t)) (by_live (live_txn m r t))
   where
-    by_live : (o : Option Txn) → op_of (option_map_or (λ y. Some (plain says.Done)) o (Some (plain (says.Ended t)))) ≡ None
+    by_live : (o : Option Txn) → op_of (option_map_or (λ y. Some (plain answers.Done)) o (Some (plain (answers.Ended t)))) ≡ None
     by_live None = refl
     by_live (Some y) = refl
 
@@ -175,11 +171,7 @@ calling_locks m k r call u named = record {
 calling_opened : (m : Machine) (k : Kept m) (r : ℕ) (call : Call) → IsCalling (asking m r call) r call (answer m r call)
 calling_opened m k r Begin = record { begins = λ e. refl; logs = λ t x e. absurd (none-some t e) }
 calling_opened m k r (Make u name kind) = calling_locks m k r (Make u name kind) u refl
-calling_opened m k r (Get u name key) = calling_locks m k r (Get u name key) u refl
-calling_opened m k r (GetForUpdate u name key) = calling_locks m k r (GetForUpdate u name key) u refl
-calling_opened m k r (Set u name key value) = calling_locks m k r (Set u name key value) u refl
-calling_opened m k r (Add u name key value) = calling_locks m k r (Add u name key value) u refl
-calling_opened m k r (Delete u name key) = calling_locks m k r (Delete u name key) u refl
+calling_opened m k r (OnKey u name key call) = calling_locks m k r (OnKey u name key call) u refl
 calling_opened m k r (Commit u) = record { begins = λ e. absurd (none-some u (sym e)); logs = λ t x e known asked. no_op_of_commit m r u }
 calling_opened m k r (Abort u) = record { begins = λ e. absurd (none-some u (sym e)); logs = λ t x e known asked. no_op_of_abort m r u }
 
@@ -203,7 +195,7 @@ kept_call m k r call = record {
 -- ---- appointments
 
 -- an appointment that isn't refused is of an epoch above each appointed one
-is_above_before : (booted above : Bool) (others : Option ℕ) → cond booted (option_map says.Refused (cond above others (Some 1))) (Some (says.Refused 9)) ≡ None → above ≡ true
+is_above_before : (booted above : Bool) (others : Option ℕ) → cond booted (option_map answers.Refused (cond above others (Some 1))) (Some (answers.Refused 9)) ≡ None → above ≡ true
 is_above_before true true others h = refl
 is_above_before true false others h = absurd (cc)
 is_above_before false above others h = absurd (cc)

@@ -2,7 +2,9 @@
 use Rattle.std.proofs.Common.{◌≡◌, cond, List, [], ◌∷◌, ◌++◌, append-nil, Option, Some, None, MatchOption, refl, sym, subst}
 use Rattle.std.specs.Prelude.{is_some}
 use Rattle.events.specs.declared.event.Event.{Event}
+use Rattle.events.specs.declared.answer.Answer.{Answer}
 use Rattle.order_machine.specs.declared.observation.Observation.{Observation}
+use Rattle.order_machine.specs.AnswerLines.{line_of_answer}
 use Rattle.order_machine.specs.Machine.{Machine, empty_machine}
 use Rattle.order_machine.specs.Transitions.{Position, refusal, opened, after}
 use Rattle.order_machine.specs.Legal.{Filter, Step, Lines, behind, IsServed, IsWhole, IsBegun, moved, AreWhole, IsLegal, moved_all}
@@ -29,7 +31,7 @@ legal_from_whole filters m (s ∷ t ∷ steps) h = (h.0, legal_from_whole filter
 pub moved_by : (P : Machine → Type 0) (m : Machine) (event : Event) (lines : List Observation) → IsBegun m event lines → P m → (refusal m event ≡ None → Lines (opened m event) lines → P (behind (opened m event) lines).machine) → P (moved m event lines)
 moved_by P m event lines begun refused served = by_refusal (refusal m event) refl begun.1
   where
-    by_refusal : (o : Option Observation) → refusal m event ≡ o → MatchOption o (IsServed (opened m event) (lines ++ begun.0)) (λ r. lines ++ begun.0 ≡ r ∷ []) → P (cond (is_some o) m (behind (opened m event) lines).machine)
+    by_refusal : (o : Option Answer) → refusal m event ≡ o → MatchOption o (IsServed (opened m event) (lines ++ begun.0)) (λ r. lines ++ begun.0 ≡ line_of_answer r ∷ []) → P (cond (is_some o) m (behind (opened m event) lines).machine)
     by_refusal None e h = served e (Lines_front (opened m event) lines begun.0 h.may)
     by_refusal (Some r) e h = refused
 

@@ -13,8 +13,10 @@ use Rattle.events.specs.declared.event.Event.TheVariants.{Boot, Client, Arm, Cra
 use Rattle.events.specs.declared.call.Call.{Call}
 use Rattle.order_machine.specs.declared.observation.Observation.{Observation}
 use Rattle.order_machine.specs.declared.observation.Observation.TheVariants as says
+use Rattle.events.specs.declared.answer.Answer.{Answer}
+use Rattle.events.specs.declared.answer.Answer.TheVariants as answers
 use Rattle.events.specs.declared.answer.Reply.{Reply}
-use Rattle.config_rule.specs.declared.answers.Answer.{Answer}
+use Rattle.config_rule.specs.declared.answers.Answer.{Answer as SurveyAnswer}
 use Rattle.config_rule.specs.Rule.{with_answer}
 use Rattle.rc_base.specs.Ids.{is_epoch, is_txn}
 use Rattle.order_machine.specs.Order.{length_of}
@@ -50,7 +52,7 @@ pub record KeptAt (p : Position) : Type 0 where
   pub calling : (r : ℕ) (call : Call) → p.event ≡ Client r call → p.answered ≡ false → IsCalling p.machine r call p.client
 
 -- a begin is answered at once
-answer_is : (m : Machine) (r : ℕ) (call : Call) → txn_named call ≡ None → answer m r call ≡ cond (not (replica m r).up) (Some (plain (says.Down r))) (cond (not (is_active m r)) (Some (plain (says.NotActive r))) (Some (plain (says.Txn (next_txn (role_of m r))))))
+answer_is : (m : Machine) (r : ℕ) (call : Call) → txn_named call ≡ None → answer m r call ≡ cond (not (replica m r).up) (Some (plain (answers.Down r))) (cond (not (is_active m r)) (Some (plain (answers.NotActive r))) (Some (plain (answers.Txn (next_txn (role_of m r))))))
 answer_is m r call none = rw none refl
 
 some_answer : (up active : Bool) (a b c : Reply) → cond (not up) (Some a) (cond (not active) (Some b) (Some c)) ≡ None → ⊥
@@ -63,7 +65,7 @@ calling_on : (m n : Machine) (r : ℕ) (call : Call) (client : Option Reply) →
 calling_on m n r call client none k =
     let is : client ≡ None = none_of client (not-true (is_some client) none) in
     record {
-      begins = λ e. absurd (some_answer (replica m r).up (is_active m r) (plain (says.Down r)) (plain (says.NotActive r)) (plain (says.Txn (next_txn (role_of m r)))) (sym (answer_is m r call e) ∙ (sym (k.begins e) ∙ is)));
+      begins = λ e. absurd (some_answer (replica m r).up (is_active m r) (plain (answers.Down r)) (plain (answers.NotActive r)) (plain (answers.Txn (next_txn (role_of m r)))) (sym (answer_is m r call e) ∙ (sym (k.begins e) ∙ is)));
       logs = λ t x e known asked. ap (option_and_then (λ reply. reply.op)) is;
     }
 
@@ -224,94 +226,80 @@ kept_committed p t k h = record {
 -- ---- answers
 
 -- a begin that is answered by a transaction is served, by an active primary's next one
-served_begin : (up active : Bool) (r : ℕ) (next t : TxnId) → option_map (λ reply. reply.answer) (cond (not up) (Some (plain (says.Down r))) (cond (not active) (Some (plain (says.NotActive r))) (Some (plain (says.Txn next))))) ≡ Some (says.Txn t) → (active ≡ true) × (next ≡ t)
+served_begin : (up active : Bool) (r : ℕ) (next t : TxnId) → option_map (λ reply. reply.answer) (cond (not up) (Some (plain (answers.Down r))) (cond (not active) (Some (plain (answers.NotActive r))) (Some (plain (answers.Txn next))))) ≡ Some (answers.Txn t) → (active ≡ true) × (next ≡ t)
 served_begin false active r next t h = absurd (cc)
 served_begin true false r next t h = absurd (cc)
 served_begin true true r next t h = (refl, cc)
 
-kept_begin : (m : Machine) (k : Kept m) (r : ℕ) (call : Call) (o : Observation) → txn_named call ≡ None → option_map (λ reply. reply.answer) (answer m r call) ≡ Some o → Kept (begun_by m r o)
-kept_begin m k r call (says.Txn t) none h =
+kept_begin : (m : Machine) (k : Kept m) (r : ℕ) (call : Call) (told : Answer) → txn_named call ≡ None → option_map (λ reply. reply.answer) (answer m r call) ≡ Some told → Kept (begun_by m r told)
+kept_begin m k r call (answers.Txn t) none h =
     let served = served_begin (replica m r).up (is_active m r) r (next_txn (role_of m r)) t (ap (option_map (λ reply. reply.answer)) (sym (answer_is m r call none)) ∙ h) in
     let role = passed (λ role. role.active) (role_of m r) served.0 in
-    subst (λ u. Kept (begun_by m r (says.Txn u))) (ap next_txn (sym role.1) ∙ served.1) (kept_begun m k r role.0 role.1)
-kept_begin m k r call (says.Up q) none h = k
-kept_begin m k r call (says.Order t ops) none h = k
-kept_begin m k r call (says.View q n) none h = k
-kept_begin m k r call (says.Active q) none h = k
-kept_begin m k r call (says.Committed t) none h = k
-kept_begin m k r call says.Done none h = k
-kept_begin m k r call (says.Refused part) none h = k
-kept_begin m k r call (says.Down q) none h = k
-kept_begin m k r call (says.NotActive q) none h = k
-kept_begin m k r call (says.Ended t) none h = k
-kept_begin m k r call says.True none h = k
-kept_begin m k r call says.False none h = k
-kept_begin m k r call (says.Value value) none h = k
-kept_begin m k r call says.Missing none h = k
-kept_begin m k r call says.Absent none h = k
-kept_begin m k r call says.WrongKind none h = k
-kept_begin m k r call (says.Fault q) none h = k
-kept_begin m k r call says.IgnoredUp none h = k
-kept_begin m k r call (says.State q n) none h = k
-kept_begin m k r call (says.Rows words) none h = k
-kept_begin m k r call (says.Locked t) none h = k
-kept_begin m k r call (says.IgnoredOldEpoch fence e) none h = k
-kept_begin m k r call (says.Progress q e last) none h = k
+    subst (λ u. Kept (begun_by m r (answers.Txn u))) (ap next_txn (sym role.1) ∙ served.1) (kept_begun m k r role.0 role.1)
+kept_begin m k r call answers.Done none h = k
+kept_begin m k r call answers.True none h = k
+kept_begin m k r call answers.False none h = k
+kept_begin m k r call (answers.Value value) none h = k
+kept_begin m k r call answers.Missing none h = k
+kept_begin m k r call answers.Absent none h = k
+kept_begin m k r call answers.WrongKind none h = k
+kept_begin m k r call (answers.Ended t) none h = k
+kept_begin m k r call (answers.Locked t) none h = k
+kept_begin m k r call (answers.NotActive q) none h = k
+kept_begin m k r call (answers.Down q) none h = k
+kept_begin m k r call (answers.Refused part) none h = k
+kept_begin m k r call (answers.Progress q e last) none h = k
+kept_begin m k r call answers.IgnoredUp none h = k
+kept_begin m k r call (answers.IgnoredOldEpoch fence e) none h = k
 
-kept_answered : (m : Machine) (k : Kept m) (event : Event) (client : Option Reply) (o : Observation) → ((r : ℕ) (call : Call) → event ≡ Client r call → IsCalling m r call client) → (is_call event ≡ true → option_map (λ reply. reply.answer) client ≡ Some o) → Kept (answered_by m event (record { answer = o; op = option_and_then (λ reply. reply.op) client }))
-kept_answered m k (Boot p members) client o calling says = k
-kept_answered m k (Arm r calls) client o calling says = k
-kept_answered m k (Crash r pick) client o calling says = k
-kept_answered m k (Reboot r) client o calling says = k
-kept_answered m k (Inspect r) client o calling says = k
-kept_answered m k (Survey r e) client o calling says = k
-kept_answered m k (Appoint e p members) client o calling says = k
-kept_answered m k (Activate e) client o calling says = k
-kept_answered m k (Client r call) client o calling says = by_name (txn_named call) refl
+kept_answered : (m : Machine) (k : Kept m) (event : Event) (client : Option Reply) → ((r : ℕ) (call : Call) → event ≡ Client r call → IsCalling m r call client) → Kept (option_map_or (answered_by m event) client m)
+kept_answered m k event None calling = k
+kept_answered m k (Boot p members) (Some reply) calling = k
+kept_answered m k (Arm r calls) (Some reply) calling = k
+kept_answered m k (Crash r pick) (Some reply) calling = k
+kept_answered m k (Reboot r) (Some reply) calling = k
+kept_answered m k (Inspect r) (Some reply) calling = k
+kept_answered m k (Survey r e) (Some reply) calling = k
+kept_answered m k (Appoint e p members) (Some reply) calling = k
+kept_answered m k (Activate e) (Some reply) calling = k
+kept_answered m k (Client r call) (Some reply) calling = by_name (txn_named call) refl
   where
-    by_name : (named : Option TxnId) → txn_named call ≡ named → Kept (option_map_or (λ t. noted m t (record { call = call; answer = o; op = option_and_then (λ reply. reply.op) client })) named (begun_by m r o))
-    by_name None e = kept_begin m k r call o e (ap (option_map (λ reply. reply.answer)) (sym ((calling r call refl).begins e)) ∙ says refl)
-    by_name (Some t) e = kept_noted m k t (record { call = call; answer = o; op = option_and_then (λ reply. reply.op) client }) (λ x known asked. (calling r call refl).logs t x e known asked)
+    by_name : (named : Option TxnId) → txn_named call ≡ named → Kept (option_map_or (λ t. noted m t (record { call = call; answer = reply.answer; op = reply.op })) named (begun_by m r reply.answer))
+    by_name None e = kept_begin m k r call reply.answer e (ap (option_map (λ x. x.answer)) (sym ((calling r call refl).begins e)))
+    by_name (Some t) e = kept_noted m k t (record { call = call; answer = reply.answer; op = reply.op }) (λ x known asked. (calling r call refl).logs t x e known asked)
 
-booting_answered : (m : Machine) (event : Event) (reply : Reply) (primary : ℕ) (members : List ℕ) → event ≡ Boot primary members → IsBooting m.txns m.appointments primary → IsBooting (answered_by m event reply).txns (answered_by m event reply).appointments primary
-booting_answered m (Boot p others) reply primary members e b = b
-booting_answered m (Client r call) reply primary members e b = absurd (cc)
-booting_answered m (Arm r calls) reply primary members e b = b
-booting_answered m (Crash r pick) reply primary members e b = b
-booting_answered m (Reboot r) reply primary members e b = b
-booting_answered m (Inspect r) reply primary members e b = b
-booting_answered m (Survey r epoch) reply primary members e b = b
-booting_answered m (Appoint epoch p others) reply primary members e b = b
-booting_answered m (Activate epoch) reply primary members e b = b
+booting_answered : (m : Machine) (event : Event) (client : Option Reply) (primary : ℕ) (members : List ℕ) → event ≡ Boot primary members → IsBooting m.txns m.appointments primary
+    → IsBooting (option_map_or (answered_by m event) client m).txns (option_map_or (answered_by m event) client m).appointments primary
+booting_answered m event None primary members e b = b
+booting_answered m (Boot p others) (Some reply) primary members e b = b
+booting_answered m (Client r call) (Some reply) primary members e b = absurd (cc)
+booting_answered m (Arm r calls) (Some reply) primary members e b = b
+booting_answered m (Crash r pick) (Some reply) primary members e b = b
+booting_answered m (Reboot r) (Some reply) primary members e b = b
+booting_answered m (Inspect r) (Some reply) primary members e b = b
+booting_answered m (Survey r epoch) (Some reply) primary members e b = b
+booting_answered m (Appoint epoch p others) (Some reply) primary members e b = b
+booting_answered m (Activate epoch) (Some reply) primary members e b = b
 
-kept_answering : (p : Position) (o : Observation) (rank : ℕ) → KeptAt p → is_none p.opening ≡ true → p.answered ≡ false → (is_call p.event ≡ true → option_map (λ reply. reply.answer) p.client ≡ Some o) → KeptAt (record (answering p o) { rank = rank })
-kept_answering p o rank k next unanswered is = record {
-  machine = kept_answered p.machine k.machine p.event p.client o (λ r call e. k.calling r call e unanswered) is;
-  opening = λ q e. not_open p.opening q next e;
-  booting = λ q members e. booting_answered p.machine p.event (record { answer = o; op = option_and_then (λ reply. reply.op) p.client }) q members e (k.booting q members e);
+kept_answering : (p : Position) (rank : ℕ) → KeptAt p → (is_none p.opening && not p.growing) ≡ true → p.answered ≡ false → KeptAt (record (answering p) { rank = rank })
+kept_answering p rank k next unanswered = record {
+  machine = kept_answered p.machine k.machine p.event p.client (λ r call e. k.calling r call e unanswered);
+  opening = λ q e. not_open p.opening q (and_parts (is_none p.opening) (not p.growing) next).0 e;
+  booting = λ q members e. booting_answered p.machine p.event p.client q members e (k.booting q members e);
   calling = λ q call e still. absurd (false≢true (sym still));
 }
 
--- an answer to a call
-kept_reply : (p : Position) (o : Observation) (rank : ℕ) → KeptAt p → (is_none p.opening && not p.growing) ≡ true → MayAnswer p o → KeptAt (record (answering p o) { rank = rank })
-kept_reply p o rank k next h = kept_answering p o rank k (and_parts (is_none p.opening) (not p.growing) next).0 h.1 (λ _. h.0)
-
--- `ok`, to a call or a boot
-kept_done : (p : Position) → KeptAt p → May p says.Done → KeptAt (after p says.Done)
-kept_done p k h =
-    let done = by_event p.event h.row in
-    kept_answering p says.Done 6 k (and_parts (is_none p.opening) (not p.growing) h.next).0 done.0 done.1
-  where
-    by_event : (event : Event) → MayBeDone p event → (p.answered ≡ false) × (is_call event ≡ true → option_map (λ reply. reply.answer) p.client ≡ Some says.Done)
-    by_event (Boot r members) done = (done.2, λ e. absurd (false≢true e))
-    by_event (Client r call) done = (done.1, λ _. done.0)
-    by_event (Arm r calls) done = (done, λ e. absurd (false≢true e))
-    by_event (Crash r pick) done = (done, λ e. absurd (false≢true e))
-    by_event (Reboot r) done = absurd done
-    by_event (Inspect r) done = absurd done
-    by_event (Survey r epoch) done = absurd done
-    by_event (Appoint epoch r members) done = (done, λ e. absurd (false≢true e))
-    by_event (Activate epoch) done = (done, λ e. absurd (false≢true e))
+-- `ok`, to a call or another event
+done_unanswered : (p : Position) (event : Event) → MayBeDone p event → p.answered ≡ false
+done_unanswered p (Boot r members) done = done.2
+done_unanswered p (Client r call) done = done.1
+done_unanswered p (Arm r calls) done = done
+done_unanswered p (Crash r pick) done = done
+done_unanswered p (Reboot r) done = absurd done
+done_unanswered p (Inspect r) done = absurd done
+done_unanswered p (Survey r epoch) done = absurd done
+done_unanswered p (Appoint epoch r members) done = done
+done_unanswered p (Activate epoch) done = done
 
 -- ---- a fault
 
@@ -319,7 +307,7 @@ kept_done p k h =
 begin_logs : (m n : Machine) (r : ℕ) (call : Call) (client : Option Reply) → txn_named call ≡ None → client ≡ answer m r call → logs n call client ≡ true → ⊥
 begin_logs m n r call client none is h = plain_logs (replica m r).up (is_active m r) (ap (logs n call) (sym (is ∙ answer_is m r call none)) ∙ h)
   where
-    plain_logs : (up active : Bool) → logs n call (cond (not up) (Some (plain (says.Down r))) (cond (not active) (Some (plain (says.NotActive r))) (Some (plain (says.Txn (next_txn (role_of m r))))))) ≡ true → ⊥
+    plain_logs : (up active : Bool) → logs n call (cond (not up) (Some (plain (answers.Down r))) (cond (not active) (Some (plain (answers.NotActive r))) (Some (plain (answers.Txn (next_txn (role_of m r))))))) ≡ true → ⊥
     plain_logs false active e = false≢true e
     plain_logs true false e = false≢true e
     plain_logs true true e = false≢true e
@@ -370,8 +358,8 @@ kept_fault p r k h =
 -- ---- a survey
 
 -- what is kept of answers to surveys is none of this
-kept_with_answers : (m : Machine) (k : Kept m) (answers : List Answer) → Kept (record m { answers = answers })
-kept_with_answers m k answers = record {
+kept_with_answers : (m : Machine) (k : Kept m) (told : List SurveyAnswer) → Kept (record m { answers = told })
+kept_with_answers m k told = record {
   order = k.order;
   one = k.one;
   replicas = k.replicas;
@@ -403,21 +391,16 @@ kept_progress p r last_epoch last k h = record {
     by_event (Appoint e q members) row = absurd row
     by_event (Activate e) row = absurd row
 
-kept_old_epoch : (p : Position) (fence e : Epoch) → KeptAt p → May p (says.IgnoredOldEpoch fence e) → KeptAt (after p (says.IgnoredOldEpoch fence e))
-kept_old_epoch p fence e k h =
-    let row = by_event p.event h.row in
-    kept_answering p (says.IgnoredOldEpoch fence e) 6 k (and_parts (is_none p.opening) (not p.growing) h.next).0 row.0 row.1
-  where
-    by_event : (event : Event) → MayIgnoreOldEpoch p event fence e → (p.answered ≡ false) × (is_call event ≡ true → option_map (λ reply. reply.answer) p.client ≡ Some (says.IgnoredOldEpoch fence e))
-    by_event (Survey at surveyed) row = (row.3, λ call. absurd (false≢true call))
-    by_event (Boot q members) row = absurd row
-    by_event (Client q call) row = absurd row
-    by_event (Arm q calls) row = absurd row
-    by_event (Crash q pick) row = absurd row
-    by_event (Reboot q) row = absurd row
-    by_event (Inspect q) row = absurd row
-    by_event (Appoint epoch q members) row = absurd row
-    by_event (Activate epoch) row = absurd row
+old_epoch_unanswered : (p : Position) (event : Event) (fence e : Epoch) → MayIgnoreOldEpoch p event fence e → p.answered ≡ false
+old_epoch_unanswered p (Survey at surveyed) fence e row = row.3
+old_epoch_unanswered p (Boot q members) fence e row = absurd row
+old_epoch_unanswered p (Client q call) fence e row = absurd row
+old_epoch_unanswered p (Arm q calls) fence e row = absurd row
+old_epoch_unanswered p (Crash q pick) fence e row = absurd row
+old_epoch_unanswered p (Reboot q) fence e row = absurd row
+old_epoch_unanswered p (Inspect q) fence e row = absurd row
+old_epoch_unanswered p (Appoint epoch q members) fence e row = absurd row
+old_epoch_unanswered p (Activate epoch) fence e row = absurd row
 
 -- ---- an inspection
 
@@ -440,22 +423,22 @@ kept_line p (says.Order t ops) k h = kept_order p t ops k h
 kept_line p (says.View r n) k h = kept_view p r n k h
 kept_line p (says.Active r) k h = kept_active p r k h
 kept_line p (says.Committed t) k h = kept_committed p t k h
-kept_line p says.Done k h = kept_done p k h
+kept_line p says.Done k h = kept_answering p 6 k h.next (done_unanswered p p.event h.row)
 kept_line p (says.Refused part) k h = absurd h.row
-kept_line p (says.Txn t) k h = kept_reply p (says.Txn t) 6 k h.next h.row
-kept_line p (says.Down r) k h = kept_reply p (says.Down r) 6 k h.next h.row
-kept_line p (says.NotActive r) k h = kept_reply p (says.NotActive r) 6 k h.next h.row
-kept_line p (says.Ended t) k h = kept_reply p (says.Ended t) 6 k h.next h.row
-kept_line p says.True k h = kept_reply p says.True 6 k h.next h.row
-kept_line p says.False k h = kept_reply p says.False 6 k h.next h.row
-kept_line p (says.Value value) k h = kept_reply p (says.Value value) 6 k h.next h.row
-kept_line p says.Missing k h = kept_reply p says.Missing 6 k h.next h.row
-kept_line p says.Absent k h = kept_reply p says.Absent 6 k h.next h.row
-kept_line p says.WrongKind k h = kept_reply p says.WrongKind 6 k h.next h.row
+kept_line p (says.Txn t) k h = kept_answering p 6 k h.next h.row.1
+kept_line p (says.Down r) k h = kept_answering p 6 k h.next h.row.1
+kept_line p (says.NotActive r) k h = kept_answering p 6 k h.next h.row.1
+kept_line p (says.Ended t) k h = kept_answering p 6 k h.next h.row.1
+kept_line p says.True k h = kept_answering p 6 k h.next h.row.1
+kept_line p says.False k h = kept_answering p 6 k h.next h.row.1
+kept_line p (says.Value value) k h = kept_answering p 6 k h.next h.row.1
+kept_line p says.Missing k h = kept_answering p 6 k h.next h.row.1
+kept_line p says.Absent k h = kept_answering p 6 k h.next h.row.1
+kept_line p says.WrongKind k h = kept_answering p 6 k h.next h.row.1
 kept_line p (says.Fault r) k h = kept_fault p r k h
 kept_line p says.IgnoredUp k h = absurd h.row
 kept_line p (says.State r n) k h = kept_state p r n k h
 kept_line p (says.Rows words) k h = kept_rows p words k
-kept_line p (says.Locked t) k h = kept_reply p (says.Locked t) 6 k h.next h.row
-kept_line p (says.IgnoredOldEpoch fence e) k h = kept_old_epoch p fence e k h
+kept_line p (says.Locked t) k h = kept_answering p 6 k h.next h.row.1
+kept_line p (says.IgnoredOldEpoch fence e) k h = kept_answering p 6 k h.next (old_epoch_unanswered p p.event fence e h.row)
 kept_line p (says.Progress r e last) k h = kept_progress p r e last k h

@@ -6,7 +6,8 @@ use Rattle.rc_base.specs.declared.ids.TxnId.{TxnId}
 use Rattle.coll_model.specs.declared.op.Kind.TheVariants as kinds
 use Rattle.events.specs.declared.event.Event.{Event}
 use Rattle.events.specs.declared.event.Event.TheVariants.{Boot, Client, Survey, Appoint, Activate}
-use Rattle.events.specs.declared.call.Call.TheVariants.{Begin, Make, Get, Set, Commit, Abort}
+use Rattle.events.specs.declared.call.Call.TheVariants.{Begin, Make, OnKey, Commit, Abort}
+use Rattle.events.specs.declared.call.KeyCall.TheVariants.{Get, Set}
 use Rattle.order_machine.specs.declared.observation.Observation.{Observation}
 use Rattle.order_machine.specs.declared.observation.Observation.TheVariants as says
 use Rattle.rc_base.specs.Ids.{is_txn, epoch_le}
@@ -122,11 +123,11 @@ one_abort =
     booted
     ∷ first_begun
     ∷ record { number = 3; event = Client 0 (Make first_txn (100 ∷ []) kinds.Dict); lines = says.True ∷ [] }
-    ∷ record { number = 4; event = Client 0 (Set first_txn (100 ∷ []) (107 ∷ []) (118 ∷ [])); lines = says.Done ∷ [] }
+    ∷ record { number = 4; event = Client 0 (OnKey first_txn (100 ∷ []) (107 ∷ []) (Set (118 ∷ []))); lines = says.Done ∷ [] }
     ∷ record { number = 5; event = Client 0 Begin; lines = says.Txn second_txn ∷ [] }
-    ∷ record { number = 6; event = Client 0 (Get second_txn (100 ∷ []) (107 ∷ [])); lines = says.Locked first_txn ∷ [] }
+    ∷ record { number = 6; event = Client 0 (OnKey second_txn (100 ∷ []) (107 ∷ []) Get); lines = says.Locked first_txn ∷ [] }
     ∷ record { number = 7; event = Client 0 (Abort first_txn); lines = says.Done ∷ [] }
-    ∷ record { number = 8; event = Client 0 (Get second_txn (100 ∷ []) (107 ∷ [])); lines = says.Absent ∷ [] }
+    ∷ record { number = 8; event = Client 0 (OnKey second_txn (100 ∷ []) (107 ∷ []) Get); lines = says.Absent ∷ [] }
     ∷ []
 
 -- The replica is surveyed and appointed again, to the next epoch, and that is activated: the transaction has ended.

@@ -19,7 +19,6 @@ never_put r =
       | inr le ↦ get_or_past (replicate 9 never_opened) r never_opened (subst (λ n. n ≤ r) (sym (length-replicate 9 never_opened)) le)
     ]
 
-
 -- what is known of a transaction once nothing goes on at r
 abbrev pub ended : ℕ → Txn → Txn
 ended r x = cond (eqb x.home r) (record x { live = false }) x

@@ -4,8 +4,6 @@
 
 mod observation;
 mod observations;
-mod word_list;
 
 pub use observation::{Observation, line_of_answer};
 pub use observations::Observations;
-pub use word_list::Words;

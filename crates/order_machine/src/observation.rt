@@ -1,8 +1,7 @@
 ghost use Rattle.std.specs.Prelude.{◌≡◌};
 ghost use Rattle.order_machine.specs.AnswerLines as lines;
 
-use crate::word_list::Words;
-use coll_model::Ops;
+use coll_model::{Ops, Words};
 use events::Answer;
 use rc_base::{Bytes, Epoch, ReplicaId, TxnId};
 

@@ -19,7 +19,7 @@ use Rattle.coll_model.specs.Effect.{State, folded}
 use Rattle.key_locks.specs.Grants.{Grant, released, Alike}
 use Rattle.key_locks.proofs.Flat.{alike_released}
 use Rattle.events.specs.declared.call.Call.{Call}
-use Rattle.order_machine.specs.declared.observation.Observation.TheVariants as says
+use Rattle.events.specs.declared.answer.Answer.TheVariants as answers
 use Rattle.events.specs.declared.answer.Reply.{Reply}
 use Rattle.events.specs.Locking.{locks_at, taken}
 use Rattle.events.specs.Answers.{plain, live_reply, reply_to, locked_or}
@@ -164,17 +164,17 @@ operated_other f n going (Some op) u apart = with_other f n (record going { ops 
 -- the calls of one that goes on, and of one that doesn't
 abbrev told_name : Fronted → State → Call → Option TxnId → Option Reply
 told_name f state call name =
-    option_map_or (λ t. option_map_or (λ going. live_reply f.grants (folded state going.ops) t call) (going_of f t) (Some (plain (says.Ended t))))
-    name (Some (plain (says.Txn (txn_at f (f.begins + 1)))))
+    option_map_or (λ t. option_map_or (λ going. live_reply f.grants (folded state going.ops) t call) (going_of f t) (Some (plain (answers.Ended t))))
+    name (Some (plain (answers.Txn (txn_at f (f.begins + 1)))))
 
 pub told_live : (f : Fronted) (state : State) (call : Call) (t : TxnId) (going : Going) → txn_named call ≡ Some t → going_of f t ≡ Some going
     → told f state call ≡ live_reply f.grants (folded state going.ops) t call
 told_live f state call t going e h =
-    ap (told_name f state call) e ∙ ap (λ (o : Option Going). option_map_or (λ going. live_reply f.grants (folded state going.ops) t call) o (Some (plain (says.Ended t)))) h
+    ap (told_name f state call) e ∙ ap (λ (o : Option Going). option_map_or (λ going. live_reply f.grants (folded state going.ops) t call) o (Some (plain (answers.Ended t)))) h
 
-pub told_ended : (f : Fronted) (state : State) (call : Call) (t : TxnId) → txn_named call ≡ Some t → going_of f t ≡ None → told f state call ≡ Some (plain (says.Ended t))
+pub told_ended : (f : Fronted) (state : State) (call : Call) (t : TxnId) → txn_named call ≡ Some t → going_of f t ≡ None → told f state call ≡ Some (plain (answers.Ended t))
 told_ended f state call t e h =
-    ap (told_name f state call) e ∙ ap (λ (o : Option Going). option_map_or (λ going. live_reply f.grants (folded state going.ops) t call) o (Some (plain (says.Ended t)))) h
+    ap (told_name f state call) e ∙ ap (λ (o : Option Going). option_map_or (λ going. live_reply f.grants (folded state going.ops) t call) o (Some (plain (answers.Ended t)))) h
 
 abbrev called_name : Fronted → State → Call → Option TxnId → Fronted
 called_name f state call name = option_map_or (λ t. option_map_or (λ going. asked f state t going call) (going_of f t) f) name (begun f)
@@ -189,7 +189,7 @@ called_ended f state call t e h = ap (called_name f state call) e ∙ ap (λ (o 
 pub called_begin : (f : Fronted) (state : State) (call : Call) → txn_named call ≡ None → called f state call ≡ begun f
 called_begin f state call e = ap (called_name f state call) e
 
-pub told_begin : (f : Fronted) (state : State) (call : Call) → txn_named call ≡ None → told f state call ≡ Some (plain (says.Txn (txn_at f (f.begins + 1))))
+pub told_begin : (f : Fronted) (state : State) (call : Call) → txn_named call ≡ None → told f state call ≡ Some (plain (answers.Txn (txn_at f (f.begins + 1))))
 told_begin f state call e = ap (told_name f state call) e
 
 abbrev locked_front : Fronted → State → TxnId → Going → Call → Fronted
@@ -242,7 +242,7 @@ pub told-alike : (a b : Fronted) (state : State) (call : Call) → AreAlike a b 
 told-alike a b state call h = along (λ (f : Fronted). told f state call ≡ told b state call) a b h (λ gs alike. by gs alike (txn_named call))
   where
     live : (gs : List Grant) → Alike gs b.grants → (t : TxnId) (o : Option Going)
-        → option_map_or (λ going. live_reply gs (folded state going.ops) t call) o (Some (plain (says.Ended t))) ≡ option_map_or (λ going. live_reply b.grants (folded state going.ops) t call) o (Some (plain (says.Ended t)))
+        → option_map_or (λ going. live_reply gs (folded state going.ops) t call) o (Some (plain (answers.Ended t))) ≡ option_map_or (λ going. live_reply b.grants (folded state going.ops) t call) o (Some (plain (answers.Ended t)))
     live gs alike t None = refl
     live gs alike t (Some going) = ap (λ (o : Option TxnId). locked_or o (reply_to (folded state going.ops) call)) (against-alike gs b.grants alike t (locks_at (folded state going.ops) call))
 

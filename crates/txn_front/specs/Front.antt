@@ -13,7 +13,7 @@ use Rattle.coll_model.specs.declared.op.Op.{Op}
 use Rattle.coll_model.specs.Effect.{State, folded}
 use Rattle.key_locks.specs.Grants.{Grant, released, Alike}
 use Rattle.events.specs.declared.call.Call.{Call}
-use Rattle.order_machine.specs.declared.observation.Observation.TheVariants as says
+use Rattle.events.specs.declared.answer.Answer.TheVariants as answers
 use Rattle.events.specs.declared.answer.Reply.{Reply}
 use Rattle.events.specs.Locking.{locks_at, taken}
 use Rattle.events.specs.Answers.{plain, live_reply}
@@ -59,8 +59,8 @@ pub record AreAlike (a b : Fronted) : Type 0 where
 
 abbrev pub told : Fronted → State → Call → Option Reply
 told f state call =
-    option_map_or (λ t. option_map_or (λ going. live_reply f.grants (folded state going.ops) t call) (going_of f t) (Some (plain (says.Ended t))))
-    (txn_named call) (Some (plain (says.Txn (txn_at f (f.begins + 1)))))
+    option_map_or (λ t. option_map_or (λ going. live_reply f.grants (folded state going.ops) t call) (going_of f t) (Some (plain (answers.Ended t))))
+    (txn_named call) (Some (plain (answers.Txn (txn_at f (f.begins + 1)))))
 
 -- ---- what it changes
 

@@ -1,11 +1,12 @@
 ghost use Rattle.std.specs.Prelude.{◌≡◌, [], ◌∷◌, Some, IfOk, OnOk};
 ghost use Rattle.std.specs.Option.{option_copied, option_map_or};
+ghost use Rattle.coll_model.specs.declared.op.Op.TheVariants as ops;
 ghost use Rattle.coll_model.specs.Effect.{folded};
 ghost use Rattle.key_locks.specs.Grants.{Alike, conflict};
 ghost use Rattle.key_locks.specs.declared.lock_name.LockName.TheVariants as names;
-ghost use Rattle.order_machine.specs.Answers as answers;
+ghost use Rattle.events.specs.Answers as answers;
 ghost use Rattle.events.specs.Answers.{live_reply};
-ghost use Rattle.events.specs.Locking.{locks_at, in_dictionary, taken};
+ghost use Rattle.events.specs.Locking.{key_mode, locks_at, in_dictionary, taken};
 ghost use Rattle.lock_laws.specs.OrderedStates.{IsOrdered};
 ghost use Rattle.lock_laws.specs.OwnOperations.{AreBuilt, AreEffective};
 ghost use Rattle.lock_laws.specs.Protected.{kind_at, value_at};
@@ -14,10 +15,9 @@ ghost use Rattle.txn_front.specs.OnKey as spec;
 
 use crate::going::Going;
 use coll_model::{Contents, Kind, Op, State};
+use events::{Answer, Call, KeyCall, Reply};
 use key_locks::{LockMode, LockName, Locks, TakeError};
-use order_machine::{Observation, Reply};
 use rc_base::{Bytes, Name, NoMemory, TxnId};
-use script_text::Call;
 
 // The answer to a call of a transaction that goes on: by the locks that others hold, and by what it sees, which is the state
 // with its own operations on it. The grants that it gets stay.
@@ -36,18 +36,16 @@ pub(crate) fn answer(
 {
     match call {
         Call::Begin | Call::Commit(_) => Ok(None),
-        Call::Abort(_) => Ok(Some(plain(Observation::Done))),
+        Call::Abort(_) => Ok(Some(plain(Answer::Done))),
         Call::Make(_, name, kind) => Ok(Some(make(going, locks, state, txn, name, *kind)?)),
-        Call::Get(_, name, key)
-        | Call::GetForUpdate(_, name, key)
-        | Call::Set(_, name, key, _)
-        | Call::Add(_, name, key, _)
-        | Call::Delete(_, name, key) => on_key(going, locks, state, txn, call, name, key),
+        Call::OnKey(_, name, key, call) => {
+            Ok(Some(on_key(going, locks, state, txn, name, key, call)?))
+        }
     }
 }
 
 // An answer that logs nothing.
-pub(crate) fn plain(answer: Observation) -> Reply
+pub(crate) fn plain(answer: Answer) -> Reply
     ensures { result ≡ answers.plain answer }
 {
     Reply { answer, op: None }
@@ -69,13 +67,13 @@ fn make(
     ensures kept { OnOk result (Alike locks.new (taken locks.old txn (locks_at (folded state.now going.now.ops) (CallSpec.Make txn name.now kind)))) }
 {
     if let Some(by) = ask_name(locks, txn, name, LockMode::Exclusive)? {
-        return Ok(plain(Observation::Locked(by)));
+        return Ok(plain(Answer::Locked(by)));
     }
     if kind_seen(going, state, name)?.is_some() {
-        return Ok(plain(Observation::False));
+        return Ok(plain(Answer::False));
     }
     Ok(Reply {
-        answer: Observation::True,
+        answer: Answer::True,
         op: Some(Op::Make(name.clone()?, kind)),
     })
 }
@@ -86,20 +84,19 @@ fn on_key(
     locks: &mut Locks,
     state: &State,
     txn: TxnId,
-    call: &Call,
     name: &Name,
     key: &Bytes,
-) -> Result<Option<Reply>, NoMemory>
-    requires key { spec.key_in call.now ≡ Some (name.now, key.now) }
+    call: &KeyCall,
+) -> Result<Reply, NoMemory>
     requires ordered { IsOrdered state.now }
     requires built { AreBuilt going.now.ops }
     requires effective { AreEffective state.now going.now.ops }
-    ensures told { IfOk result (λ reply. reply ≡ live_reply locks.old (folded state.now going.now.ops) txn call.now) }
-    ensures kept { OnOk result (Alike locks.new (taken locks.old txn (locks_at (folded state.now going.now.ops) call.now))) }
+    ensures told { IfOk result (λ reply. Some reply ≡ live_reply locks.old (folded state.now going.now.ops) txn (CallSpec.OnKey txn name.now key.now call.now)) }
+    ensures kept { OnOk result (Alike locks.new (taken locks.old txn (locks_at (folded state.now going.now.ops) (CallSpec.OnKey txn name.now key.now call.now)))) }
 {
     match enter(going, locks, state, txn, name, key, mode_of(call))? {
-        Some(refusal) => Ok(Some(plain(refusal))),
-        None => keyed(call, value_seen(going, state, name, key)?),
+        Some(refusal) => Ok(plain(refusal)),
+        None => keyed(name, key, call, value_seen(going, state, name, key)?),
     }
 }
 
@@ -113,7 +110,7 @@ fn enter(
     name: &Name,
     key: &Bytes,
     mode: LockMode,
-) -> Result<Option<Observation>, NoMemory>
+) -> Result<Option<Answer>, NoMemory>
     requires ordered { IsOrdered state.now }
     requires built { AreBuilt going.now.ops }
     requires effective { AreEffective state.now going.now.ops }
@@ -121,13 +118,13 @@ fn enter(
     ensures kept { OnOk result (Alike locks.new (taken locks.old txn (in_dictionary name.now key.now mode (folded state.now going.now.ops)))) }
 {
     if let Some(by) = ask_name(locks, txn, name, LockMode::Shared)? {
-        return Ok(Some(Observation::Locked(by)));
+        return Ok(Some(Answer::Locked(by)));
     }
     match kind_seen(going, state, name)? {
-        None => Ok(Some(Observation::Absent)),
-        Some(Kind::Queue) => Ok(Some(Observation::WrongKind)),
+        None => Ok(Some(Answer::Absent)),
+        Some(Kind::Queue) => Ok(Some(Answer::WrongKind)),
         Some(Kind::Dict) => match ask_key(locks, txn, name, key, mode)? {
-            Some(by) => Ok(Some(Observation::Locked(by))),
+            Some(by) => Ok(Some(Answer::Locked(by))),
             None => Ok(None),
         },
     }
@@ -180,39 +177,47 @@ fn ask_key(
 }
 
 // The mode in which a call locks its key.
-fn mode_of(call: &Call) -> LockMode
-    ensures { result ≡ spec.mode_of call.now }
+fn mode_of(call: &KeyCall) -> LockMode
+    ensures { result ≡ key_mode call.now }
 {
     match call {
-        Call::Get(..) => LockMode::Shared,
-        Call::GetForUpdate(..) => LockMode::Update,
-        _ => LockMode::Exclusive,
+        KeyCall::Get => LockMode::Shared,
+        KeyCall::GetForUpdate => LockMode::Update,
+        KeyCall::Set(_) | KeyCall::Add(_) | KeyCall::Delete => LockMode::Exclusive,
     }
 }
 
 // The answer to a call on a key, by the key's value.
-fn keyed(call: &Call, value: Option<&Bytes>) -> Result<Option<Reply>, NoMemory>
-    ensures { IfOk result (λ reply. reply ≡ spec.keyed call.now (option_copied value.entry)) }
+fn keyed(
+    name: &Name,
+    key: &Bytes,
+    call: &KeyCall,
+    present: Option<&Bytes>,
+) -> Result<Reply, NoMemory>
+    ensures { IfOk result (λ reply. reply ≡ answers.key_reply name.now key.now call.now (option_copied present.entry)) }
 {
-    Ok(match (call, value) {
-        (Call::Get(..) | Call::GetForUpdate(..), Some(value)) => {
-            Some(plain(Observation::Value(value.clone()?)))
+    match (call, present) {
+        (KeyCall::Get | KeyCall::GetForUpdate, Some(value)) => {
+            Ok(plain(Answer::Value(value.clone()?)))
         }
-        (Call::Get(..) | Call::GetForUpdate(..), None) => Some(plain(Observation::Missing)),
-        (Call::Set(_, name, key, value), _) => Some(Reply {
-            answer: Observation::Done,
-            op: Some(Op::Put(name.clone()?, key.clone()?, value.clone()?)),
-        }),
-        (Call::Add(_, name, key, value), None) => Some(Reply {
-            answer: Observation::True,
-            op: Some(Op::Put(name.clone()?, key.clone()?, value.clone()?)),
-        }),
-        (Call::Delete(_, name, key), Some(_)) => Some(Reply {
-            answer: Observation::True,
+        (KeyCall::Get | KeyCall::GetForUpdate, None) => Ok(plain(Answer::Missing)),
+        (KeyCall::Set(value), _) => put(Answer::Done, name, key, value),
+        (KeyCall::Add(value), None) => put(Answer::True, name, key, value),
+        (KeyCall::Delete, Some(_)) => Ok(Reply {
+            answer: Answer::True,
             op: Some(Op::Del(name.clone()?, key.clone()?)),
         }),
-        (Call::Add(..), Some(_)) | (Call::Delete(..), None) => Some(plain(Observation::False)),
-        _ => None,
+        (KeyCall::Add(_), Some(_)) | (KeyCall::Delete, None) => Ok(plain(Answer::False)),
+    }
+}
+
+// The key gets the value, and that is answered so.
+fn put(answer: Answer, name: &Name, key: &Bytes, value: &Bytes) -> Result<Reply, NoMemory>
+    ensures { IfOk result (λ reply. reply ≡ record { answer = answer; op = Some (ops.Put name.now key.now value.now) }) }
+{
+    Ok(Reply {
+        answer,
+        op: Some(Op::Put(name.clone()?, key.clone()?, value.clone()?)),
     })
 }
 

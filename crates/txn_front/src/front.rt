@@ -1,17 +1,17 @@
 ghost use Rattle.std.specs.Prelude.{◌≡◌, ◌+◌, ◌<◌, ◌^◌, Some, IfOk, OnOk};
 ghost use Rattle.std.specs.Option.{option_map, option_copied};
-ghost use Rattle.order_machine.specs.Answers as answers;
-ghost use Rattle.order_machine.specs.declared.observation.Observation.TheVariants as says;
+ghost use Rattle.events.specs.Answers as answers;
+ghost use Rattle.events.specs.Calls.{txn_named};
+ghost use Rattle.events.specs.declared.answer.Answer.TheVariants as says;
 ghost use Rattle.txn_front.specs.Front as spec;
 ghost use Rattle.txn_front.specs.Front.{AreAlike, IsOver};
 
 use crate::asking::{answer, plain};
 use crate::going::Going;
 use coll_model::{Ops, State};
+use events::{Answer, Call, Reply};
 use key_locks::Locks;
-use order_machine::{Observation, Reply};
 use rc_base::{Epoch, Lsn, NoMemory, TxnId};
-use script_text::Call;
 use std::alloc::Global;
 use std::collections::BTreeMap;
 use std::marker::Model;
@@ -65,7 +65,7 @@ impl Front {
         ensures kept { OnOk result (AreAlike self.new (spec.called self.old state.now call.now)) }
         ensures over { OnOk result (IsOver self.new state.now) }
     {
-        match txn_named(call) {
+        match call.txn() {
             None => self.begin(),
             Some(txn) => self.asked(state, txn, call),
         }
@@ -84,21 +84,21 @@ impl Front {
             epoch: self.epoch,
             n,
         };
-        Ok(Some(plain(Observation::Txn(txn))))
+        Ok(Some(plain(Answer::Txn(txn))))
     }
 
     // A call that names the transaction.
     fn asked(&mut self, state: &State, txn: TxnId, call: &Call) -> Result<Option<Reply>, NoMemory>
-        requires named { answers.txn_named call.now ≡ Some txn }
+        requires named { txn_named call.now ≡ Some txn }
         requires over { IsOver self.old state.now }
         ensures told { IfOk result (λ reply. reply ≡ spec.told self.old state.now call.now) }
         ensures kept { OnOk result (AreAlike self.new (spec.called self.old state.now call.now)) }
     {
         if txn.epoch != self.epoch {
-            return Ok(Some(plain(Observation::Ended(txn))));
+            return Ok(Some(plain(Answer::Ended(txn))));
         }
         let Some(going) = self.live.get_mut(&txn.n) else {
-            return Ok(Some(plain(Observation::Ended(txn))));
+            return Ok(Some(plain(Answer::Ended(txn))));
         };
         let reply = answer(going, &mut self.locks, state, txn, call)?;
         going.note(&reply)?;
@@ -146,22 +146,5 @@ impl Front {
         ensures { result ≡ self.now.begins }
     {
         self.begins
-    }
-}
-
-/// The transaction that a call names, none for a begin.
-pub fn txn_named(call: &Call) -> Option<TxnId>
-    ensures { result ≡ answers.txn_named call.now }
-{
-    match call {
-        Call::Begin => None,
-        Call::Make(txn, ..)
-        | Call::Get(txn, ..)
-        | Call::GetForUpdate(txn, ..)
-        | Call::Set(txn, ..)
-        | Call::Add(txn, ..)
-        | Call::Delete(txn, ..)
-        | Call::Commit(txn)
-        | Call::Abort(txn) => Some(*txn),
     }
 }

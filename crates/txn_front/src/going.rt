@@ -4,9 +4,9 @@ ghost use Rattle.lock_laws.specs.OwnOperations as own;
 ghost use Rattle.txn_front.specs.Index.{noted};
 
 use coll_model::{Op, Ops};
+use events::Reply;
 use indexmap::IndexMap;
 use key_locks::LockName;
-use order_machine::Reply;
 use rc_base::{Lsn, NoMemory};
 use std::alloc::Global;
 use std::marker::Model;

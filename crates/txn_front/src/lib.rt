@@ -5,5 +5,5 @@ mod asking;
 mod front;
 mod going;
 
-pub use front::{Front, txn_named};
+pub use front::Front;
 pub use going::Going;
