@@ -5,7 +5,7 @@ use Rattle.std.proofs.lemmas.List.Quantifiers.{position-Some}
 use Rattle.std.proofs.lemmas.List.Sums.{fails_before_first}
 use Rattle.std.proofs.lemmas.Bool.{ltb-false}
 use Rattle.rc_base.specs.declared.ids.Epoch.{Epoch}
-use Rattle.config_rule.specs.declared.answers.Answer.{Answer}
+use Rattle.config_rule.specs.declared.answers.SurveyAnswer.{SurveyAnswer}
 use Rattle.config_rule.specs.declared.appointments.Appointed.{Appointed}
 use Rattle.rc_base.specs.Ids.{is_epoch}
 use Rattle.std.specs.Option.{option_map_or}
@@ -24,27 +24,27 @@ fails_all p xs d none =
 
 -- ---- answers
 
-with_answer_at : (answer : Answer) (answers : List Answer) (i : ℕ) (d : Answer) → i < length answers → is_answer answer.epoch answer.from (get_or answers i d) ≡ true
+with_answer_at : (answer : SurveyAnswer) (answers : List SurveyAnswer) (i : ℕ) (d : SurveyAnswer) → i < length answers → is_answer answer.epoch answer.from (get_or answers i d) ≡ true
     → ((k : ℕ) → k < i → is_answer answer.epoch answer.from (get_or answers k d) ≡ false) → set answers i answer ≡ with_answer answer answers
 with_answer_at answer [] i d lt at before = absurd (omega arith)
 with_answer_at answer (a ∷ answers) zero d lt at before = rw at refl
 with_answer_at answer (a ∷ answers) (suc i) d lt at before =
     let first : is_answer answer.epoch answer.from a ≡ false = before 0 (omega arith) in
-    rw first (ap (λ (ys : List Answer). a ∷ ys) (with_answer_at answer answers i d (omega arith) at (λ k below. before (suc k) (omega arith))))
+    rw first (ap (λ (ys : List SurveyAnswer). a ∷ ys) (with_answer_at answer answers i d (omega arith) at (λ k below. before (suc k) (omega arith))))
 
-with_answer_last : (answer : Answer) (answers : List Answer) → ((k : ℕ) → k < length answers → is_answer answer.epoch answer.from (get_or answers k answer) ≡ false)
+with_answer_last : (answer : SurveyAnswer) (answers : List SurveyAnswer) → ((k : ℕ) → k < length answers → is_answer answer.epoch answer.from (get_or answers k answer) ≡ false)
     → with_answer answer answers ≡ answers ++ answer ∷ []
 with_answer_last answer [] none = refl
 with_answer_last answer (a ∷ answers) none =
     let first : is_answer answer.epoch answer.from a ≡ false = none 0 (omega arith) in
-    rw first (ap (λ (ys : List Answer). a ∷ ys) (with_answer_last answer answers (λ k below. none (suc k) (omega arith))))
+    rw first (ap (λ (ys : List SurveyAnswer). a ∷ ys) (with_answer_last answer answers (λ k below. none (suc k) (omega arith))))
 
-pub answer_in_place : (answer : Answer) (answers : List Answer) (i : ℕ) → position (is_answer answer.epoch answer.from) answers ≡ Some i → set answers i answer ≡ with_answer answer answers
+pub answer_in_place : (answer : SurveyAnswer) (answers : List SurveyAnswer) (i : ℕ) → position (is_answer answer.epoch answer.from) answers ≡ Some i → set answers i answer ≡ with_answer answer answers
 answer_in_place answer answers i at =
     let p = position-Some (is_answer answer.epoch answer.from) answers i answer at in
     with_answer_at answer answers i answer p.0 p.1 p.2
 
-pub answer_behind : (answer : Answer) (answers : List Answer) → position (is_answer answer.epoch answer.from) answers ≡ None → with_answer answer answers ≡ answers ++ answer ∷ []
+pub answer_behind : (answer : SurveyAnswer) (answers : List SurveyAnswer) → position (is_answer answer.epoch answer.from) answers ≡ None → with_answer answer answers ≡ answers ++ answer ∷ []
 answer_behind answer answers none = with_answer_last answer answers (fails_all (is_answer answer.epoch answer.from) answers answer none)
 
 -- ---- appointments
@@ -99,17 +99,17 @@ configuration_there (x ∷ xs) (suc i) a lt = configuration_there xs i a (omega 
 
 -- ---- what a change leaves of all that is known
 
-abbrev known : List Appointed → List ℕ → List Answer → Known
+abbrev known : List Appointed → List ℕ → List SurveyAnswer → Known
 known appointed current answers = record { appointed = appointed; current = current; answers = answers }
 
-pub active_in_place : (epoch : Epoch) (appointed : List Appointed) (place : ℕ) (answers : List Answer) (i : ℕ) (a : Appointed) → position (of_epoch epoch) appointed ≡ Some i → a ≡ get_or appointed i a
+pub active_in_place : (epoch : Epoch) (appointed : List Appointed) (place : ℕ) (answers : List SurveyAnswer) (i : ℕ) (a : Appointed) → position (of_epoch epoch) appointed ≡ Some i → a ≡ get_or appointed i a
     → known (set appointed i (made_active a)) (configuration_at (set appointed i (made_active a)) place) answers ≡ after_active (known appointed (configuration_at appointed place) answers) epoch
 active_in_place epoch appointed place answers i a at is =
     let p = position-Some (of_epoch epoch) appointed i a at in
     ap₂ (λ (xs : List Appointed) (c : List ℕ). known xs c answers) (changed_in_place epoch made_active appointed i a at is).0
     (configuration_kept appointed i place (made_active a) a p.0 (ap (λ (x : Appointed). x.cc) (sym is)))
 
-pub activated_in_place : (epoch : Epoch) (appointed : List Appointed) (current : List ℕ) (answers : List Answer) (i : ℕ) (a : Appointed) → position (of_epoch epoch) appointed ≡ Some i → a ≡ get_or appointed i a
+pub activated_in_place : (epoch : Epoch) (appointed : List Appointed) (current : List ℕ) (answers : List SurveyAnswer) (i : ℕ) (a : Appointed) → position (of_epoch epoch) appointed ≡ Some i → a ≡ get_or appointed i a
     → known (set appointed i (made_current a)) (configuration_at (set appointed i (made_current a)) i) answers ≡ after_activation (known appointed current answers) epoch
 activated_in_place epoch appointed current answers i a at is =
     let p = position-Some (of_epoch epoch) appointed i a at in

@@ -5,7 +5,7 @@ use Rattle.std.specs.Option.{option_map_or}
 use Rattle.rc_base.specs.declared.ids.Epoch.{Epoch}
 use Rattle.rc_base.specs.Members.{first_twice}
 use Rattle.rc_base.specs.Quorum.{read_quorum}
-use Rattle.config_rule.specs.declared.answers.Answer.{Answer}
+use Rattle.config_rule.specs.declared.answers.SurveyAnswer.{SurveyAnswer}
 use Rattle.config_rule.specs.declared.appointments.Appointed.{Appointed}
 use Rattle.rc_base.specs.Ids.{is_epoch, epoch_lt}
 
@@ -13,26 +13,26 @@ use Rattle.rc_base.specs.Ids.{is_epoch, epoch_lt}
 pub record Known : Type 0 where
   pub appointed : List Appointed  -- in order; the first is the boot's
   pub current : List ℕ  -- the configuration last activated
-  pub answers : List Answer  -- to surveys: the latest of each replica to each epoch
+  pub answers : List SurveyAnswer  -- to surveys: the latest of each replica to each epoch
 
 -- ---- answers to surveys
 
-abbrev pub is_answer : Epoch → ℕ → Answer → Bool
+abbrev pub is_answer : Epoch → ℕ → SurveyAnswer → Bool
 is_answer epoch from a = is_epoch epoch a.epoch && (from == a.from)
 
 -- what the replica answered to a survey of the epoch
-abbrev pub answer_of : List Answer → Epoch → ℕ → Option Answer
+abbrev pub answer_of : List SurveyAnswer → Epoch → ℕ → Option SurveyAnswer
 answer_of answers epoch from = find (is_answer epoch from) answers
 
-abbrev pub has_answered : List Answer → Epoch → ℕ → Bool
+abbrev pub has_answered : List SurveyAnswer → Epoch → ℕ → Bool
 has_answered answers epoch from = is_some (answer_of answers epoch from)
 
 -- whether an answer tells of less than another: by the epoch of the last record, and then by its place
-abbrev pub tells_less : Answer → Answer → Bool
+abbrev pub tells_less : SurveyAnswer → SurveyAnswer → Bool
 tells_less a b = epoch_lt a.last_epoch b.last_epoch || (is_epoch a.last_epoch b.last_epoch && nat_lt a.last.0 b.last.0)
 
 -- with the answer, in place of the replica's earlier one to that epoch
-abbrev pub with_answer : Answer → List Answer → List Answer
+abbrev pub with_answer : SurveyAnswer → List SurveyAnswer → List SurveyAnswer
 with_answer answer [] = answer ∷ []
 with_answer answer (a ∷ answers) = if is_answer answer.epoch answer.from a then answer ∷ answers else a ∷ with_answer answer answers
 
@@ -48,16 +48,16 @@ are_members members primary =
     not (is_some (first_twice members)) && (nat_le 1 (length members) && nat_le (length members) 9) && list_any (λ m. m == primary) members
 
 -- 3: a read quorum of the configuration last activated has answered a survey of the epoch
-abbrev pub has_quorum : List Answer → List ℕ → Epoch → Bool
+abbrev pub has_quorum : List SurveyAnswer → List ℕ → Epoch → Bool
 has_quorum answers current epoch = nat_le (read_quorum (length current)) (count_by (has_answered answers epoch) current)
 
 -- 4: the primary has answered it, and no survey above
-abbrev pub has_answered_last : List Answer → Epoch → ℕ → Bool
+abbrev pub has_answered_last : List SurveyAnswer → Epoch → ℕ → Bool
 has_answered_last answers epoch primary =
     has_answered answers epoch primary && not (list_any (λ a. (primary == a.from) && epoch_lt epoch a.epoch) answers)
 
 -- 5: no answer to it tells of more than the primary's
-abbrev pub tells_most : List Answer → Epoch → ℕ → Bool
+abbrev pub tells_most : List SurveyAnswer → Epoch → ℕ → Bool
 tells_most answers epoch primary =
     option_map_or (λ own. not (list_any (λ a. is_epoch epoch a.epoch && tells_less own a) answers)) (answer_of answers epoch primary) true
 
@@ -111,7 +111,7 @@ after_appointment known epoch primary cc = record known {
 }
 
 -- an answer more, in place of the replica's earlier one to that epoch
-abbrev pub after_answer : Known → Answer → Known
+abbrev pub after_answer : Known → SurveyAnswer → Known
 after_answer known answer = record known { answers = with_answer answer known.answers }
 
 -- the primary of the epoch has become active

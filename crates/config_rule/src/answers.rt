@@ -7,19 +7,19 @@ use std::alloc::Global;
 use std::marker::Model;
 
 /// What a replica answered to a survey of an epoch: the epoch and the place of its last record.
-#[derive(Clone, Copy, Debug, PartialEq, Eq)]
-pub struct Answer {
+#[derive(Clone, Copy, PartialEq, Eq)]
+pub struct SurveyAnswer {
     pub epoch: Epoch,
     pub from: ReplicaId,
     pub last_epoch: Epoch,
     pub last: Lsn,
 }
 
-impl Answer {
+impl SurveyAnswer {
     ghost use Rattle.config_rule.specs.Rule as rule;
 
     // Whether it tells of less than another: by the epoch of the last record, and then by its place.
-    fn tells_less(&self, other: &Answer) -> bool
+    fn tells_less(&self, other: &SurveyAnswer) -> bool
         ensures { result ≡ rule.tells_less self.now other.now }
     {
         is_before(self.last_epoch, other.last_epoch)
@@ -43,14 +43,14 @@ pub fn is_before(a: Epoch, b: Epoch) -> bool
 // The answers to surveys, the latest of each replica to each epoch. Contracts see the list of them.
 #[derive(Drop)]
 pub struct Answers {
-    answers: Vec<Answer>,
+    answers: Vec<SurveyAnswer>,
 }
 
 impl Model for Answers {
     ghost use Rattle.std.specs.Prelude.{List};
-    ghost use Rattle.config_rule.specs.declared.answers.Answer.{Answer};
+    ghost use Rattle.config_rule.specs.declared.answers.SurveyAnswer.{SurveyAnswer};
 
-    ghost Value = { List Answer };
+    ghost Value = { List SurveyAnswer };
 
     ghost view = { λ a. a.answers.items };
 }
@@ -66,7 +66,7 @@ impl Answers {
         }
     }
 
-    pub fn note(&mut self, answer: Answer) -> Result<(), NoMemory>
+    pub fn note(&mut self, answer: SurveyAnswer) -> Result<(), NoMemory>
         ensures ok { OnOk result (self.new ≡ rule.with_answer answer self.old) }
         ensures err { OnErr result (self.new ≡ self.old) }
     {
@@ -83,7 +83,7 @@ impl Answers {
         self.answers.iter().position(|a| a.is_of(epoch, from))
     }
 
-    fn of(&self, epoch: Epoch, from: ReplicaId) -> Option<Answer>
+    fn of(&self, epoch: Epoch, from: ReplicaId) -> Option<SurveyAnswer>
         ensures { result ≡ rule.answer_of self.now epoch from }
     {
         self.answers.iter().copied().find(|a| a.is_of(epoch, from))
@@ -130,7 +130,7 @@ impl Answers {
         }
     }
 
-    fn has_more(&self, epoch: Epoch, own: Answer) -> bool
+    fn has_more(&self, epoch: Epoch, own: SurveyAnswer) -> bool
         ensures { result ≡ list_any (λ a. is_epoch epoch a.epoch && rule.tells_less own a) self.now }
     {
         self.answers

@@ -16,7 +16,7 @@ use Rattle.order_machine.specs.declared.observation.Observation.TheVariants as s
 use Rattle.events.specs.declared.answer.Answer.{Answer}
 use Rattle.events.specs.declared.answer.Answer.TheVariants as answers
 use Rattle.events.specs.declared.answer.Reply.{Reply}
-use Rattle.config_rule.specs.declared.answers.Answer.{Answer as SurveyAnswer}
+use Rattle.config_rule.specs.declared.answers.SurveyAnswer.{SurveyAnswer}
 use Rattle.config_rule.specs.Rule.{with_answer}
 use Rattle.rc_base.specs.Ids.{is_epoch, is_txn}
 use Rattle.order_machine.specs.Order.{length_of}

@@ -7,7 +7,7 @@ use Rattle.rc_base.specs.declared.ids.Epoch.{Epoch}
 use Rattle.rc_base.specs.declared.ids.TxnId.{TxnId}
 use Rattle.coll_model.specs.declared.op.Op.{Op}
 use Rattle.key_locks.specs.Grants.{Grant}
-use Rattle.config_rule.specs.declared.answers.Answer.{Answer}
+use Rattle.config_rule.specs.declared.answers.SurveyAnswer.{SurveyAnswer}
 use Rattle.config_rule.specs.declared.appointments.Appointed.{Appointed}
 use Rattle.config_rule.specs.Rule.{Known}
 use Rattle.events.specs.Calls.{CallRecord, ops_in}
@@ -66,7 +66,7 @@ pub record Machine : Type 0 where
   pub txns : List (TxnId × Txn)
   pub appointments : List Appointment
   pub config : List ℕ
-  pub answers : List Answer
+  pub answers : List SurveyAnswer
 
 -- ---- the start of a world
 

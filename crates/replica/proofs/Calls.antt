@@ -15,7 +15,7 @@ use Rattle.coll_model.specs.declared.op.Op.{Op}
 use Rattle.coll_model.specs.Effect.{State, folded}
 use Rattle.events.specs.declared.call.Call.{Call}
 use Rattle.events.specs.declared.call.Call.TheVariants as calls
-use Rattle.order_machine.specs.declared.observation.Observation.TheVariants as says
+use Rattle.events.specs.declared.answer.Answer.TheVariants as answers
 use Rattle.events.specs.declared.answer.Reply.{Reply}
 use Rattle.events.specs.Locking.{locks_at, taken}
 use Rattle.events.specs.Answers.{plain, live_reply}
@@ -251,9 +251,9 @@ reply_live r t going call = live_reply r.front.grants (folded r.contents going.o
 
 pub replies_live : (r : Open) (t : TxnId) (call : Call) → txn_named call ≡ Some t → (l : IsLive r t) → reply r call ≡ reply_live r t l.going call
 replies_live r t call named l =
-    ap (λ (b : Bool). cond b (front.told r.front r.contents call) (Some (plain (says.NotActive r.id)))) l.active
-    ∙ ap (λ (o : Option TxnId). option_map_or (λ t. option_map_or (λ going. live_reply r.front.grants (folded r.contents going.ops) t call) (going_of r.front t) (Some (plain (says.Ended t)))) o (Some (plain (says.Txn (txn_at r.front (r.front.begins + 1)))))) named
-    ∙ ap (λ (o : Option Going). option_map_or (λ going. live_reply r.front.grants (folded r.contents going.ops) t call) o (Some (plain (says.Ended t)))) l.is
+    ap (λ (b : Bool). cond b (front.told r.front r.contents call) (Some (plain (answers.NotActive r.id)))) l.active
+    ∙ ap (λ (o : Option TxnId). option_map_or (λ t. option_map_or (λ going. live_reply r.front.grants (folded r.contents going.ops) t call) (going_of r.front t) (Some (plain (answers.Ended t)))) o (Some (plain (answers.Txn (txn_at r.front (r.front.begins + 1)))))) named
+    ∙ ap (λ (o : Option Going). option_map_or (λ going. live_reply r.front.grants (folded r.contents going.ops) t call) o (Some (plain (answers.Ended t)))) l.is
 
 -- what it logs
 pub logs_live : (r : Open) (t : TxnId) (call : Call) → txn_named call ≡ Some t → (l : IsLive r t) → logged_by r call ≡ logged_call r.last t l.going call (reply_live r t l.going call)
@@ -432,10 +432,6 @@ item_of r call t named logs changes commits = record { txn = t; named = named; l
 pub call_steps : (r : Open) (v : Kept) (call : Call) → AgreesWith r v → StepsTo (called r call) v (placed r.last.0 r.epoch (logged_by r call)) (committed_by r (steps.Client call))
 call_steps r v calls.Begin a = begin_steps r v a
 call_steps r v (calls.Make t name kind) a = item_steps r v (calls.Make t name kind) (item_of r (calls.Make t name kind) t refl (λ last going told. refl) (λ count. refl) refl) a
-call_steps r v (calls.Get t name key) a = item_steps r v (calls.Get t name key) (item_of r (calls.Get t name key) t refl (λ last going told. refl) (λ count. refl) refl) a
-call_steps r v (calls.GetForUpdate t name key) a = item_steps r v (calls.GetForUpdate t name key) (item_of r (calls.GetForUpdate t name key) t refl (λ last going told. refl) (λ count. refl) refl) a
-call_steps r v (calls.Set t name key value) a = item_steps r v (calls.Set t name key value) (item_of r (calls.Set t name key value) t refl (λ last going told. refl) (λ count. refl) refl) a
-call_steps r v (calls.Add t name key value) a = item_steps r v (calls.Add t name key value) (item_of r (calls.Add t name key value) t refl (λ last going told. refl) (λ count. refl) refl) a
-call_steps r v (calls.Delete t name key) a = item_steps r v (calls.Delete t name key) (item_of r (calls.Delete t name key) t refl (λ last going told. refl) (λ count. refl) refl) a
+call_steps r v (calls.OnKey t name key asked) a = item_steps r v (calls.OnKey t name key asked) (item_of r (calls.OnKey t name key asked) t refl (λ last going told. refl) (λ count. refl) refl) a
 call_steps r v (calls.Commit t) a = commit_steps r v t a
 call_steps r v (calls.Abort t) a = abort_steps r v t a

@@ -89,11 +89,7 @@ commit_few last t going = omega (arith, length-append (begin_due t going) (End t
 call_few : (last : Lsn) (t : TxnId) (going : Going) (call : Call) (told : Option Reply) → length (logged_call last t going call told) ≤ 2
 call_few last t going calls.Begin told = op_few last t going (option_and_then (λ reply. reply.op) told)
 call_few last t going (calls.Make u name kind) told = op_few last t going (option_and_then (λ reply. reply.op) told)
-call_few last t going (calls.Get u name key) told = op_few last t going (option_and_then (λ reply. reply.op) told)
-call_few last t going (calls.GetForUpdate u name key) told = op_few last t going (option_and_then (λ reply. reply.op) told)
-call_few last t going (calls.Set u name key value) told = op_few last t going (option_and_then (λ reply. reply.op) told)
-call_few last t going (calls.Add u name key value) told = op_few last t going (option_and_then (λ reply. reply.op) told)
-call_few last t going (calls.Delete u name key) told = op_few last t going (option_and_then (λ reply. reply.op) told)
+call_few last t going (calls.OnKey u name key asked) told = op_few last t going (option_and_then (λ reply. reply.op) told)
 call_few last t going (calls.Commit u) told = commit_few last t going
 call_few last t going (calls.Abort u) told = elim (going.last.0 == 0) as (λ b. length (cond b [] (End t going.last false ∷ [])) ≤ 2) [ true ↦ omega arith | false ↦ omega arith ]
 
@@ -195,11 +191,7 @@ op_told n last t going (Some op) = due_told n (going.last.0 == 0) t _ (omega ari
 call_told : (n : ℕ) (last : Lsn) (t : TxnId) (going : Going) (call : Call) (told : Option Reply) → AllTold n (logged_call last t going call told)
 call_told n last t going calls.Begin told = op_told n last t going (option_and_then (λ reply. reply.op) told)
 call_told n last t going (calls.Make u name kind) told = op_told n last t going (option_and_then (λ reply. reply.op) told)
-call_told n last t going (calls.Get u name key) told = op_told n last t going (option_and_then (λ reply. reply.op) told)
-call_told n last t going (calls.GetForUpdate u name key) told = op_told n last t going (option_and_then (λ reply. reply.op) told)
-call_told n last t going (calls.Set u name key value) told = op_told n last t going (option_and_then (λ reply. reply.op) told)
-call_told n last t going (calls.Add u name key value) told = op_told n last t going (option_and_then (λ reply. reply.op) told)
-call_told n last t going (calls.Delete u name key) told = op_told n last t going (option_and_then (λ reply. reply.op) told)
+call_told n last t going (calls.OnKey u name key asked) told = op_told n last t going (option_and_then (λ reply. reply.op) told)
 call_told n last t going (calls.Commit u) told = due_told n (going.last.0 == 0) t _ (omega arith, tt)
 call_told n last t going (calls.Abort u) told = elim (going.last.0 == 0) as (λ b. AllTold n (cond b [] (End t going.last false ∷ []))) [ true ↦ tt | false ↦ (omega arith, tt) ]
 
@@ -273,11 +265,7 @@ noted_few count r call lsn = omega (arith, noted_begins count call lsn (front.ca
 answered_begins : (count : ℕ) (r : Open) (call : Call) → (answered count call r).front.begins ≤ r.front.begins + 1
 answered_begins count r calls.Begin = noted_few count r calls.Begin (behind r.last count)
 answered_begins count r (calls.Make t name kind) = noted_few count r (calls.Make t name kind) (behind r.last count)
-answered_begins count r (calls.Get t name key) = noted_few count r (calls.Get t name key) (behind r.last count)
-answered_begins count r (calls.GetForUpdate t name key) = noted_few count r (calls.GetForUpdate t name key) (behind r.last count)
-answered_begins count r (calls.Set t name key value) = noted_few count r (calls.Set t name key value) (behind r.last count)
-answered_begins count r (calls.Add t name key value) = noted_few count r (calls.Add t name key value) (behind r.last count)
-answered_begins count r (calls.Delete t name key) = noted_few count r (calls.Delete t name key) (behind r.last count)
+answered_begins count r (calls.OnKey t name key asked) = noted_few count r (calls.OnKey t name key asked) (behind r.last count)
 answered_begins count r (calls.Commit t) = commit_begins count r t
 answered_begins count r (calls.Abort t) = omega (arith, ended_begins r.front t)
 

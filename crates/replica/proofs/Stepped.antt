@@ -134,11 +134,7 @@ commit_same count r log f t h =
 finished_same : (count : ℕ) (r : Open) (log : Store) (f : Fronted) (call : Call) → AreAlike f (front.called r.front r.contents call) → AreSame (finished count call f (mid log f r)) (record (answered count call r) { log = log })
 finished_same count r log f calls.Begin h = item_same count r log f calls.Begin h refl refl
 finished_same count r log f (calls.Make t name kind) h = item_same count r log f (calls.Make t name kind) h refl refl
-finished_same count r log f (calls.Get t name key) h = item_same count r log f (calls.Get t name key) h refl refl
-finished_same count r log f (calls.GetForUpdate t name key) h = item_same count r log f (calls.GetForUpdate t name key) h refl refl
-finished_same count r log f (calls.Set t name key value) h = item_same count r log f (calls.Set t name key value) h refl refl
-finished_same count r log f (calls.Add t name key value) h = item_same count r log f (calls.Add t name key value) h refl refl
-finished_same count r log f (calls.Delete t name key) h = item_same count r log f (calls.Delete t name key) h refl refl
+finished_same count r log f (calls.OnKey t name key asked) h = item_same count r log f (calls.OnKey t name key asked) h refl refl
 finished_same count r log f (calls.Commit t) h = commit_same count r log f t (subst (AreAlike f) (commit_changes_none r.front r.contents t) h)
 finished_same count r log f (calls.Abort t) h = same_numbers count r log f (front.ended f t) (front.ended r.front t) (ended-alike f r.front t (subst (AreAlike f) (abort_changes_none r.front r.contents t) h))
 

@@ -13,12 +13,13 @@ use Rattle.coll_model.specs.declared.contents.Contents.TheVariants.{Dict, Queue}
 use Rattle.coll_model.specs.Effect.{State, at_key, folded}
 use Rattle.events.specs.declared.call.Call.{Call}
 use Rattle.events.specs.declared.call.Call.TheVariants as calls
-use Rattle.order_machine.specs.declared.observation.Observation.TheVariants as says
+use Rattle.events.specs.declared.call.KeyCall.{KeyCall}
+use Rattle.events.specs.declared.call.KeyCall.TheVariants as key_calls
+use Rattle.events.specs.declared.answer.Answer.TheVariants as answers
 use Rattle.events.specs.declared.answer.Reply.{Reply}
 use Rattle.events.specs.Locking.{locks_at, against}
-use Rattle.events.specs.Answers.{plain, make_reply, added, deleted, reply_to, locked_or, live_reply}
+use Rattle.events.specs.Answers.{plain, make_reply, added, deleted, reply_to, locked_or, live_reply, key_reply, dictionary_reply}
 use Rattle.events.specs.Calls.{txn_named}
-use Rattle.order_machine.specs.Clients.{get_reply, set_reply, add_reply, delete_reply}
 use Rattle.log_records.specs.declared.record.Record.{Record}
 use Rattle.log_records.specs.declared.record.Record.TheVariants.{Begin, End}
 use Rattle.rc_base.specs.Names.{is_name}
@@ -33,7 +34,7 @@ use Rattle.replica.specs.declared.step.StepEvent.TheVariants as steps
 use Rattle.replica.specs.declared.step.Outcome.{Outcome}
 use Rattle.replica.specs.Logging.{IsReplyTo, AllFit, asked, last_named, logged_to, answer_of, shown_one, told_commit, told_then}
 use Rattle.replica.specs.Open.{Open}
-use Rattle.replica.specs.Step.{is_active, reply, going_in, logged_op, logged_call, logged_by, logged, quiet, shown_commits, committed_at, survey_answer, outcome, CallFits, MayStep}
+use Rattle.replica.specs.Step.{is_active, reply, going_in, logged_op, logged_call, logged_by, logged, quiet, shown_commits, committed_at, survey_answer, outcome, KeyCallFits, CallFits, MayStep}
 use Rattle.replica.proofs.Calls.{IsLive, reply_live, replies_live, logs_live, logs_none}
 use Rattle.replica.proofs.Lengthened.{by_call}
 use Rattle.replica.proofs.Puts.{alike_going}
@@ -48,11 +49,11 @@ record HasReply (r : Open) (call : Call) : Type 0 where
 
 locked_has : (by : Option TxnId) (told : Reply) → (x : Reply) × (locked_or by (Some told) ≡ Some x)
 locked_has None told = (told, refl)
-locked_has (Some holder) told = (plain (says.Locked holder), refl)
+locked_has (Some holder) told = (plain (answers.Locked holder), refl)
 
 live_has : (f : Fronted) (state : State) (t : TxnId) (call : Call) → ((seen : State) → (x : Reply) × (reply_to seen call ≡ Some x)) → (o : Option Going)
-    → (x : Reply) × (option_map_or (λ going. live_reply f.grants (folded state going.ops) t call) o (Some (plain (says.Ended t))) ≡ Some x)
-live_has f state t call has None = (plain (says.Ended t), refl)
+    → (x : Reply) × (option_map_or (λ going. live_reply f.grants (folded state going.ops) t call) o (Some (plain (answers.Ended t))) ≡ Some x)
+live_has f state t call has None = (plain (answers.Ended t), refl)
 live_has f state t call has (Some going) =
     let seen : State = folded state going.ops in
     let own = has seen in
@@ -60,23 +61,23 @@ live_has f state t call has (Some going) =
     (any.0, ap (locked_or (against f.grants t (locks_at seen call))) own.1 ∙ any.1)
 
 told_has : (f : Fronted) (state : State) (call : Call) → ((seen : State) → (x : Reply) × (reply_to seen call ≡ Some x)) → (o : Option TxnId)
-    → (x : Reply) × (option_map_or (λ t. option_map_or (λ going. live_reply f.grants (folded state going.ops) t call) (going_of f t) (Some (plain (says.Ended t)))) o (Some (plain (says.Txn (txn_at f (f.begins + 1))))) ≡ Some x)
-told_has f state call has None = (plain (says.Txn (txn_at f (f.begins + 1))), refl)
+    → (x : Reply) × (option_map_or (λ t. option_map_or (λ going. live_reply f.grants (folded state going.ops) t call) (going_of f t) (Some (plain (answers.Ended t)))) o (Some (plain (answers.Txn (txn_at f (f.begins + 1))))) ≡ Some x)
+told_has f state call has None = (plain (answers.Txn (txn_at f (f.begins + 1))), refl)
 told_has f state call has (Some t) = live_has f state t call has (going_of f t)
 
 has_reply : (r : Open) (call : Call) → ((seen : State) → (x : Reply) × (reply_to seen call ≡ Some x)) → HasReply r call
 has_reply r call has = by (is_active r.role) refl
   where
     by : (b : Bool) → is_active r.role ≡ b → HasReply r call
-    by true on = let some = told_has r.front r.contents call has (txn_named call) in record { told = some.0; is = ap (λ (b : Bool). cond b (front.told r.front r.contents call) (Some (plain (says.NotActive r.id)))) on ∙ some.1 }
-    by false off = record { told = plain (says.NotActive r.id); is = ap (λ (b : Bool). cond b (front.told r.front r.contents call) (Some (plain (says.NotActive r.id)))) off }
+    by true on = let some = told_has r.front r.contents call has (txn_named call) in record { told = some.0; is = ap (λ (b : Bool). cond b (front.told r.front r.contents call) (Some (plain (answers.NotActive r.id)))) on ∙ some.1 }
+    by false off = record { told = plain (answers.NotActive r.id); is = ap (λ (b : Bool). cond b (front.told r.front r.contents call) (Some (plain (answers.NotActive r.id)))) off }
 
 begin_reply : (r : Open) → HasReply r calls.Begin
 begin_reply r = by (is_active r.role) refl
   where
     by : (b : Bool) → is_active r.role ≡ b → HasReply r calls.Begin
-    by true on = record { told = plain (says.Txn (txn_at r.front (r.front.begins + 1))); is = ap (λ (b : Bool). cond b (front.told r.front r.contents calls.Begin) (Some (plain (says.NotActive r.id)))) on }
-    by false off = record { told = plain (says.NotActive r.id); is = ap (λ (b : Bool). cond b (front.told r.front r.contents calls.Begin) (Some (plain (says.NotActive r.id)))) off }
+    by true on = record { told = plain (answers.Txn (txn_at r.front (r.front.begins + 1))); is = ap (λ (b : Bool). cond b (front.told r.front r.contents calls.Begin) (Some (plain (answers.NotActive r.id)))) on }
+    by false off = record { told = plain (answers.NotActive r.id); is = ap (λ (b : Bool). cond b (front.told r.front r.contents calls.Begin) (Some (plain (answers.NotActive r.id)))) off }
 
 -- ---- what a step tells
 
@@ -89,17 +90,17 @@ commit_told : (r : Open) (log : Store) (f : Fronted) (t : TxnId) (told : Option 
     → cond b (told_commit (kept_in log f r) t (answer_of told)) (quiet (kept_in log f r) (answer_of told))
     ≡ option_map_or (λ told. quiet r (Some told.answer)) (reply r (calls.Commit t)) (shown_commits r (committed_at r t))
 commit_told r log f t told alike false off o is same =
-    let no : Option Reply = Some (plain (says.NotActive r.id)) in
-    answer_told r log f (calls.Commit t) told (shown_commits r (committed_at r t)) same (record { told = plain (says.NotActive r.id); is = ap (λ (b : Bool). cond b (front.told r.front r.contents (calls.Commit t)) no) off })
+    let no : Option Reply = Some (plain (answers.NotActive r.id)) in
+    answer_told r log f (calls.Commit t) told (shown_commits r (committed_at r t)) same (record { told = plain (answers.NotActive r.id); is = ap (λ (b : Bool). cond b (front.told r.front r.contents (calls.Commit t)) no) off })
 commit_told r log f t told alike true on None is same =
-    let no : Option Reply = Some (plain (says.NotActive r.id)) in
-    let gone : Option Reply = Some (plain (says.Ended t)) in
+    let no : Option Reply = Some (plain (answers.NotActive r.id)) in
+    let gone : Option Reply = Some (plain (answers.Ended t)) in
     let has : reply r (calls.Commit t) ≡ gone = ap (λ (b : Bool). cond b (front.told r.front r.contents (calls.Commit t)) no) on ∙ ap (λ (o : Option Going). option_map_or (λ going. live_reply r.front.grants (folded r.contents going.ops) t (calls.Commit t)) o gone) is in
     ap (λ (o : Option Going). option_map_or (λ going. shown_one (r.shown + 1) t going.ops) o (quiet (kept_in log f r) (answer_of told))) (alike_going f r.front t alike ∙ is)
-    ∙ answer_told r log f (calls.Commit t) told (shown_commits r (committed_at r t)) same (record { told = plain (says.Ended t); is = has })
+    ∙ answer_told r log f (calls.Commit t) told (shown_commits r (committed_at r t)) same (record { told = plain (answers.Ended t); is = has })
 commit_told r log f t told alike true on (Some going) is same =
-    let no : Option Reply = Some (plain (says.NotActive r.id)) in
-    let gone : Option Reply = Some (plain (says.Ended t)) in
+    let no : Option Reply = Some (plain (answers.NotActive r.id)) in
+    let gone : Option Reply = Some (plain (answers.Ended t)) in
     let has : reply r (calls.Commit t) ≡ None = ap (λ (b : Bool). cond b (front.told r.front r.contents (calls.Commit t)) no) on ∙ ap (λ (o : Option Going). option_map_or (λ going. live_reply r.front.grants (folded r.contents going.ops) t (calls.Commit t)) o gone) is in
     let here : going_in r t ≡ Some going = ap (λ (b : Bool). cond b (going_of r.front t) None) on ∙ is in
     ap (λ (o : Option Going). option_map_or (λ going. shown_one (r.shown + 1) t going.ops) o (quiet (kept_in log f r) (answer_of told))) (alike_going f r.front t alike ∙ is)
@@ -116,13 +117,9 @@ asked_commit r f t h = by (is_active r.role) h
 told_in : (r : Open) (log : Store) (f : Fronted) (event : StepEvent) (told : Option Reply) → AreAlike f (asked r event) → IsReplyTo r event told → told_then (kept_in log f r) event told ≡ outcome r event
 told_in r log f (steps.Client calls.Begin) told h is = answer_told r log f calls.Begin told _ is (begin_reply r)
 told_in r log f (steps.Client (calls.Make t name kind)) told h is = answer_told r log f (calls.Make t name kind) told _ is (has_reply r (calls.Make t name kind) (λ seen. (make_reply name kind (at_key name seen), refl)))
-told_in r log f (steps.Client (calls.Get t name key)) told h is = answer_told r log f (calls.Get t name key) told _ is (has_reply r (calls.Get t name key) (λ seen. (get_reply key (at_key name seen), refl)))
-told_in r log f (steps.Client (calls.GetForUpdate t name key)) told h is = answer_told r log f (calls.GetForUpdate t name key) told _ is (has_reply r (calls.GetForUpdate t name key) (λ seen. (get_reply key (at_key name seen), refl)))
-told_in r log f (steps.Client (calls.Set t name key value)) told h is = answer_told r log f (calls.Set t name key value) told _ is (has_reply r (calls.Set t name key value) (λ seen. (set_reply name key value (at_key name seen), refl)))
-told_in r log f (steps.Client (calls.Add t name key value)) told h is = answer_told r log f (calls.Add t name key value) told _ is (has_reply r (calls.Add t name key value) (λ seen. (add_reply name key value (at_key name seen), refl)))
-told_in r log f (steps.Client (calls.Delete t name key)) told h is = answer_told r log f (calls.Delete t name key) told _ is (has_reply r (calls.Delete t name key) (λ seen. (delete_reply name key (at_key name seen), refl)))
+told_in r log f (steps.Client (calls.OnKey t name key asked)) told h is = answer_told r log f (calls.OnKey t name key asked) told _ is (has_reply r (calls.OnKey t name key asked) (λ seen. (dictionary_reply name key asked (at_key name seen), refl)))
 told_in r log f (steps.Client (calls.Commit t)) told h is = commit_told r log f t told (asked_commit r f t h) (is_active r.role) refl (going_of r.front t) refl is
-told_in r log f (steps.Client (calls.Abort t)) told h is = answer_told r log f (calls.Abort t) told _ is (has_reply r (calls.Abort t) (λ seen. (plain says.Done, refl)))
+told_in r log f (steps.Client (calls.Abort t)) told h is = answer_told r log f (calls.Abort t) told _ is (has_reply r (calls.Abort t) (λ seen. (plain answers.Done, refl)))
 told_in r log f (steps.Survey epoch) told h is = by (epoch_lt epoch r.fence)
   where
     by : (b : Bool) → quiet (cond b (kept_in log f r) (record (kept_in log f r) { fence = later r.fence epoch; role = Other; front = front.nothing no_epoch })) (Some (survey_answer r epoch))
@@ -146,11 +143,7 @@ op_last last t going (Some op) = refl
 pub logged_last : (last : Lsn) (t : TxnId) (going : Going) (call : Call) (told : Option Reply) → logged_call last t (logged_to going.last) call told ≡ logged_call last t going call told
 logged_last last t going calls.Begin told = op_last last t going (option_and_then (λ reply. reply.op) told)
 logged_last last t going (calls.Make u name kind) told = op_last last t going (option_and_then (λ reply. reply.op) told)
-logged_last last t going (calls.Get u name key) told = op_last last t going (option_and_then (λ reply. reply.op) told)
-logged_last last t going (calls.GetForUpdate u name key) told = op_last last t going (option_and_then (λ reply. reply.op) told)
-logged_last last t going (calls.Set u name key value) told = op_last last t going (option_and_then (λ reply. reply.op) told)
-logged_last last t going (calls.Add u name key value) told = op_last last t going (option_and_then (λ reply. reply.op) told)
-logged_last last t going (calls.Delete u name key) told = op_last last t going (option_and_then (λ reply. reply.op) told)
+logged_last last t going (calls.OnKey u name key asked) told = op_last last t going (option_and_then (λ reply. reply.op) told)
 logged_last last t going (calls.Commit u) told = refl
 logged_last last t going (calls.Abort u) told = refl
 
@@ -172,7 +165,7 @@ named_logs r call t last told bodies on is told_is are = by (txn_named call) ref
     by (Some u) named h =
         let found = some_pair t u last (going_of r.front u) h in
         let live : IsLive r u = record { going = found.0; is = found.1; active = on } in
-        let answered : told ≡ reply_live r u found.0 call = told_is ∙ sym (ap (λ (b : Bool). cond b (front.told r.front r.contents call) (Some (plain (says.NotActive r.id)))) on) ∙ replies_live r u call named live in
+        let answered : told ≡ reply_live r u found.0 call = told_is ∙ sym (ap (λ (b : Bool). cond b (front.told r.front r.contents call) (Some (plain (answers.NotActive r.id)))) on) ∙ replies_live r u call named live in
         are ∙ ap (λ (w : TxnId). logged_call r.last w (logged_to last) call told) (sym found.2) ∙ ap (λ (l : Lsn). logged_call r.last u (logged_to l) call told) (sym found.3)
         ∙ logged_last r.last u found.0 call told ∙ ap (logged_call r.last u found.0 call) answered ∙ sym (logs_live r u call named live)
 
@@ -206,42 +199,30 @@ make_spelled : (name : List ℕ) (kind : Kind) (o : Option Contents) → IsTrue 
 make_spelled name kind None h = h
 make_spelled name kind (Some contents) h = tt
 
-get_spelled : (key : List ℕ) (o : Option Contents) → OpSpelled (get_reply key o).op
-get_spelled key None = tt
-get_spelled key (Some (Queue values)) = tt
-get_spelled key (Some (Dict pairs)) = tt
-
-set_spelled : (name key value : List ℕ) (o : Option Contents) → IsTrue (is_name name) × IsTrue (is_key key) × IsTrue (is_value value) → OpSpelled (set_reply name key value o).op
-set_spelled name key value None h = tt
-set_spelled name key value (Some (Queue values)) h = tt
-set_spelled name key value (Some (Dict pairs)) h = h
-
 added_spelled : (name key value : List ℕ) (o : Option (List ℕ)) → IsTrue (is_name name) × IsTrue (is_key key) × IsTrue (is_value value) → OpSpelled (added name key value o).op
 added_spelled name key value None h = h
 added_spelled name key value (Some present) h = tt
-
-add_spelled : (name key value : List ℕ) (o : Option Contents) → IsTrue (is_name name) × IsTrue (is_key key) × IsTrue (is_value value) → OpSpelled (add_reply name key value o).op
-add_spelled name key value None h = tt
-add_spelled name key value (Some (Queue values)) h = tt
-add_spelled name key value (Some (Dict pairs)) h = added_spelled name key value (at_key key pairs) h
 
 deleted_spelled : (name key : List ℕ) (o : Option (List ℕ)) → IsTrue (is_name name) × IsTrue (is_key key) → OpSpelled (deleted name key o).op
 deleted_spelled name key None h = tt
 deleted_spelled name key (Some present) h = h
 
-delete_spelled : (name key : List ℕ) (o : Option Contents) → IsTrue (is_name name) × IsTrue (is_key key) → OpSpelled (delete_reply name key o).op
-delete_spelled name key None h = tt
-delete_spelled name key (Some (Queue values)) h = tt
-delete_spelled name key (Some (Dict pairs)) h = deleted_spelled name key (at_key key pairs) h
+key_spelled : (name key : List ℕ) (call : KeyCall) (o : Option (List ℕ)) → KeyCallFits name key call → OpSpelled (key_reply name key call o).op
+key_spelled name key key_calls.Get o h = tt
+key_spelled name key key_calls.GetForUpdate o h = tt
+key_spelled name key (key_calls.Set value) o h = h
+key_spelled name key (key_calls.Add value) o h = added_spelled name key value o h
+key_spelled name key key_calls.Delete o h = deleted_spelled name key o h
+
+dictionary_spelled : (name key : List ℕ) (call : KeyCall) (o : Option Contents) → KeyCallFits name key call → OpSpelled (dictionary_reply name key call o).op
+dictionary_spelled name key call None h = tt
+dictionary_spelled name key call (Some (Queue values)) h = tt
+dictionary_spelled name key call (Some (Dict pairs)) h = key_spelled name key call (at_key key pairs) h
 
 reply_spelled : (state : State) (call : Call) → CallFits call → ReplySpelled (reply_to state call)
 reply_spelled state calls.Begin h = tt
 reply_spelled state (calls.Make t name kind) h = make_spelled name kind (at_key name state) h
-reply_spelled state (calls.Get t name key) h = get_spelled key (at_key name state)
-reply_spelled state (calls.GetForUpdate t name key) h = get_spelled key (at_key name state)
-reply_spelled state (calls.Set t name key value) h = set_spelled name key value (at_key name state) h
-reply_spelled state (calls.Add t name key value) h = add_spelled name key value (at_key name state) h
-reply_spelled state (calls.Delete t name key) h = delete_spelled name key (at_key name state) h
+reply_spelled state (calls.OnKey t name key call) h = dictionary_spelled name key call (at_key name state) h
 reply_spelled state (calls.Commit t) h = tt
 reply_spelled state (calls.Abort t) h = tt
 
@@ -249,7 +230,7 @@ locked_spelled : (by : Option TxnId) (told : Option Reply) → ReplySpelled told
 locked_spelled None told h = h
 locked_spelled (Some holder) told h = tt
 
-live_spelled : (f : Fronted) (state : State) (t : TxnId) (call : Call) → CallFits call → (o : Option Going) → ReplySpelled (option_map_or (λ going. live_reply f.grants (folded state going.ops) t call) o (Some (plain (says.Ended t))))
+live_spelled : (f : Fronted) (state : State) (t : TxnId) (call : Call) → CallFits call → (o : Option Going) → ReplySpelled (option_map_or (λ going. live_reply f.grants (folded state going.ops) t call) o (Some (plain (answers.Ended t))))
 live_spelled f state t call h None = tt
 live_spelled f state t call h (Some going) =
     let seen : State = folded state going.ops in
@@ -258,11 +239,11 @@ live_spelled f state t call h (Some going) =
 told_spelled : (r : Open) (call : Call) → CallFits call → ReplySpelled (reply r call)
 told_spelled r call h = by (is_active r.role)
   where
-    served : (o : Option TxnId) → ReplySpelled (option_map_or (λ t. option_map_or (λ going. live_reply r.front.grants (folded r.contents going.ops) t call) (going_of r.front t) (Some (plain (says.Ended t)))) o (Some (plain (says.Txn (txn_at r.front (r.front.begins + 1))))))
+    served : (o : Option TxnId) → ReplySpelled (option_map_or (λ t. option_map_or (λ going. live_reply r.front.grants (folded r.contents going.ops) t call) (going_of r.front t) (Some (plain (answers.Ended t)))) o (Some (plain (answers.Txn (txn_at r.front (r.front.begins + 1))))))
     served None = tt
     served (Some t) = live_spelled r.front r.contents t call h (going_of r.front t)
 
-    by : (b : Bool) → ReplySpelled (cond b (front.told r.front r.contents call) (Some (plain (says.NotActive r.id))))
+    by : (b : Bool) → ReplySpelled (cond b (front.told r.front r.contents call) (Some (plain (answers.NotActive r.id))))
     by true = served (txn_named call)
     by false = tt
 
@@ -277,11 +258,7 @@ op_fits last t going (Some op) h = due_fits (going.last.0 == 0) t _ (h, tt)
 call_fits : (last : Lsn) (t : TxnId) (going : Going) (call : Call) (told : Option Reply) → ReplySpelled told → AllFit (logged_call last t going call told)
 call_fits last t going calls.Begin told h = op_fits last t going (option_and_then (λ reply. reply.op) told) (op_of told h)
 call_fits last t going (calls.Make u name kind) told h = op_fits last t going (option_and_then (λ reply. reply.op) told) (op_of told h)
-call_fits last t going (calls.Get u name key) told h = op_fits last t going (option_and_then (λ reply. reply.op) told) (op_of told h)
-call_fits last t going (calls.GetForUpdate u name key) told h = op_fits last t going (option_and_then (λ reply. reply.op) told) (op_of told h)
-call_fits last t going (calls.Set u name key value) told h = op_fits last t going (option_and_then (λ reply. reply.op) told) (op_of told h)
-call_fits last t going (calls.Add u name key value) told h = op_fits last t going (option_and_then (λ reply. reply.op) told) (op_of told h)
-call_fits last t going (calls.Delete u name key) told h = op_fits last t going (option_and_then (λ reply. reply.op) told) (op_of told h)
+call_fits last t going (calls.OnKey u name key asked) told h = op_fits last t going (option_and_then (λ reply. reply.op) told) (op_of told h)
 call_fits last t going (calls.Commit u) told h = due_fits (going.last.0 == 0) t _ (tt, tt)
 call_fits last t going (calls.Abort u) told h = elim (going.last.0 == 0) as (λ b. AllFit (cond b [] (End t going.last false ∷ []))) [ true ↦ tt | false ↦ (tt, tt) ]
 

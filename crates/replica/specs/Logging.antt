@@ -6,7 +6,7 @@ use Rattle.rc_base.specs.declared.ids.TxnId.{TxnId}
 use Rattle.coll_model.specs.declared.op.Op.{Op}
 use Rattle.events.specs.declared.call.Call.{Call}
 use Rattle.events.specs.declared.call.Call.TheVariants as calls
-use Rattle.order_machine.specs.declared.observation.Observation.{Observation}
+use Rattle.events.specs.declared.answer.Answer.{Answer}
 use Rattle.events.specs.declared.answer.Reply.{Reply}
 use Rattle.events.specs.Calls.{txn_named}
 use Rattle.log_records.specs.declared.record.Record.{Record}
@@ -53,7 +53,7 @@ abbrev pub changed : ℕ → Open → StepEvent → Open
 changed count r (steps.Client call) = if is_active r.role then finished count call r.front r else r
 changed count r event = stepped r event
 
-abbrev pub answer_of : Option Reply → Option Observation
+abbrev pub answer_of : Option Reply → Option Answer
 answer_of told = option_map (λ reply. reply.answer) told
 
 -- one commit was shown, and so many are shown with it
@@ -61,7 +61,7 @@ abbrev pub shown_one : ℕ → TxnId → List Op → Outcome
 shown_one shown t ops = record { answer = None; commits = record { txn = t; ops = ops } ∷ []; acknowledged = t ∷ []; shown = shown; active = true; barrier_due = true }
 
 -- what is told of a commit, and of one of a transaction that doesn't go on
-abbrev pub told_commit : Open → TxnId → Option Observation → Outcome
+abbrev pub told_commit : Open → TxnId → Option Answer → Outcome
 told_commit r t answer = option_map_or (λ going. shown_one (r.shown + 1) t going.ops) (going_of r.front t) (quiet r answer)
 
 -- what is told of a step whose call was answered

@@ -10,8 +10,10 @@ use Rattle.coll_model.specs.declared.op.Op.{Op}
 use Rattle.coll_model.specs.Effect.{folded}
 use Rattle.events.specs.declared.call.Call.{Call}
 use Rattle.events.specs.declared.call.Call.TheVariants as calls
-use Rattle.order_machine.specs.declared.observation.Observation.{Observation}
-use Rattle.order_machine.specs.declared.observation.Observation.TheVariants as says
+use Rattle.events.specs.declared.call.KeyCall.{KeyCall}
+use Rattle.events.specs.declared.call.KeyCall.TheVariants as key_calls
+use Rattle.events.specs.declared.answer.Answer.{Answer}
+use Rattle.events.specs.declared.answer.Answer.TheVariants as answers
 use Rattle.events.specs.declared.answer.Reply.{Reply}
 use Rattle.events.specs.Answers.{plain}
 use Rattle.events.specs.Calls.{txn_named}
@@ -40,7 +42,7 @@ is_active (Primary epoch active) = active
 -- An active primary answers by what goes on over what it shows. The commit of a transaction that goes on has no answer of
 -- its own.
 abbrev pub reply : Open → Call → Option Reply
-reply r call = if is_active r.role then front.told r.front r.contents call else Some (plain (says.NotActive r.id))
+reply r call = if is_active r.role then front.told r.front r.contents call else Some (plain (answers.NotActive r.id))
 
 -- ---- what a step logs
 
@@ -168,7 +170,7 @@ committed_by r (steps.Client (calls.Commit t)) = committed_at r t
 committed_by r _ = []
 
 -- a step that shows nothing more
-abbrev pub quiet : Open → Option Observation → Outcome
+abbrev pub quiet : Open → Option Answer → Outcome
 quiet r answer = record { answer = answer; commits = []; acknowledged = []; shown = r.shown; active = is_active r.role; barrier_due = false }
 
 -- commits are shown and acknowledged, and a Barrier is to follow
@@ -176,8 +178,8 @@ abbrev pub shown_commits : Open → List Committed → Outcome
 shown_commits r commits = record { answer = None; commits = commits; acknowledged = map (λ c. c.txn) commits; shown = r.shown + length commits; active = true; barrier_due = true }
 
 -- the answer to a survey: how far the log reaches, or the fence that the epoch is below
-abbrev pub survey_answer : Open → Epoch → Observation
-survey_answer r epoch = if epoch_lt epoch r.fence then says.IgnoredOldEpoch r.fence epoch else says.Progress r.id r.epoch r.last.0
+abbrev pub survey_answer : Open → Epoch → Answer
+survey_answer r epoch = if epoch_lt epoch r.fence then answers.IgnoredOldEpoch r.fence epoch else answers.Progress r.id r.epoch r.last.0
 
 abbrev pub outcome : Open → StepEvent → Outcome
 outcome r (steps.Client call) = option_map_or (λ told. quiet r (Some told.answer)) (reply r call) (shown_commits r (committed_by r (steps.Client call)))
@@ -188,14 +190,17 @@ outcome r steps.Barrier = quiet r None
 -- ---- which steps there are
 
 -- the words of what a call logs have a spelling
+abbrev pub KeyCallFits : List ℕ → List ℕ → KeyCall → Type 0
+KeyCallFits name key key_calls.Get = Unit {0}
+KeyCallFits name key key_calls.GetForUpdate = Unit {0}
+KeyCallFits name key (key_calls.Set value) = IsTrue (is_name name) × IsTrue (is_key key) × IsTrue (is_value value)
+KeyCallFits name key (key_calls.Add value) = IsTrue (is_name name) × IsTrue (is_key key) × IsTrue (is_value value)
+KeyCallFits name key key_calls.Delete = IsTrue (is_name name) × IsTrue (is_key key)
+
 abbrev pub CallFits : Call → Type 0
 CallFits calls.Begin = Unit {0}
 CallFits (calls.Make t name kind) = IsTrue (is_name name)
-CallFits (calls.Get t name key) = Unit {0}
-CallFits (calls.GetForUpdate t name key) = Unit {0}
-CallFits (calls.Set t name key value) = IsTrue (is_name name) × IsTrue (is_key key) × IsTrue (is_value value)
-CallFits (calls.Add t name key value) = IsTrue (is_name name) × IsTrue (is_key key) × IsTrue (is_value value)
-CallFits (calls.Delete t name key) = IsTrue (is_name name) × IsTrue (is_key key)
+CallFits (calls.OnKey t name key call) = KeyCallFits name key call
 CallFits (calls.Commit t) = Unit {0}
 CallFits (calls.Abort t) = Unit {0}
 

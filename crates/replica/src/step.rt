@@ -1,11 +1,10 @@
 use crate::commits::Commits;
 use crate::txn_ids::TxnIds;
-use order_machine::Observation;
+use events::{Answer, Call};
 use rc_base::Epoch;
-use script_text::Call;
 
 /// What happens at an open replica.
-#[derive(Debug, Drop)]
+#[derive(Drop)]
 pub enum StepEvent {
     /// A client's call.
     Client(Call),
@@ -19,9 +18,9 @@ pub enum StepEvent {
 
 /// What a step tells: the answer to a call or a survey; the commits that are shown by it, in order; those that are acknowledged by
 /// it; how many commits the replica shows then; whether it is an active primary; and whether a Barrier is to follow.
-#[derive(Debug, Drop)]
+#[derive(Drop)]
 pub struct Outcome {
-    pub answer: Option<Observation>,
+    pub answer: Option<Answer>,
     pub commits: Commits,
     pub acknowledged: TxnIds,
     pub shown: u64,

@@ -28,13 +28,12 @@ use crate::txn_ids::TxnIds;
 use barrier_group::Group;
 use coll_model::{Op, Ops};
 use disk_model::Disk;
+use events::{Answer, Call, Reply};
 use gated_log::LogError;
 use log_records::{Physical, Record};
-use order_machine::{Observation, Reply};
 use rc_base::{Epoch, Lsn, NoMemory, TxnId};
-use script_text::Call;
 use std::mem;
-use txn_front::{Front, txn_named};
+use txn_front::Front;
 use txn_table::Committed;
 
 impl Replica {
@@ -88,7 +87,7 @@ impl Replica {
         ensures asked { OnOk result (AreAlike self.new.front (parts.asked self.old (steps.Client call.now))) }
     {
         if !self.is_active() {
-            let answer = Observation::NotActive(self.id);
+            let answer = Answer::NotActive(self.id);
             return Ok((Some(Reply { answer, op: None }), Vec::new(self.alloc)));
         }
         let last = self.last_named(call);
@@ -104,7 +103,7 @@ impl Replica {
     fn last_named(&self, call: &Call) -> Option<(TxnId, Lsn)>
         ensures { result ≡ parts.last_named self.now.front call.now }
     {
-        let txn = txn_named(call)?;
+        let txn = call.txn()?;
         let going = self.front.going(txn)?;
         Some((txn, going.last()))
     }
@@ -342,7 +341,7 @@ impl Replica {
     fn committed(
         &mut self,
         txn: TxnId,
-        answer: Option<Observation>,
+        answer: Option<Answer>,
         count: u64,
     ) -> Result<Outcome, NoMemory>
         requires room { self.old.last.0 + count < 2 ^ 64 }
@@ -395,7 +394,7 @@ impl Replica {
             return;
         }
         self.lengthen(count, self.epoch);
-        if let Some(txn) = txn_named(call) {
+        if let Some(txn) = call.txn() {
             self.front.logged(txn, self.last);
         }
     }
@@ -406,12 +405,12 @@ impl Replica {
         ensures told { result ≡ spec.outcome self.old (steps.Survey epoch) }
     {
         if epoch < self.fence {
-            return self.quiet(Some(Observation::IgnoredOldEpoch(self.fence, epoch)));
+            return self.quiet(Some(Answer::IgnoredOldEpoch(self.fence, epoch)));
         }
         self.fence = later(self.fence, epoch);
         self.role = Role::Other;
         self.front = Front::new(self.alloc, Epoch { loss: 0, number: 0 });
-        self.quiet(Some(Observation::Progress(self.id, self.epoch, self.last.0)))
+        self.quiet(Some(Answer::Progress(self.id, self.epoch, self.last.0)))
     }
 
     // An epoch was started: what its log commits is shown.
@@ -451,7 +450,7 @@ impl Replica {
     }
 
     // A step that shows nothing more.
-    pub(crate) fn quiet(&self, answer: Option<Observation>) -> Outcome
+    pub(crate) fn quiet(&self, answer: Option<Answer>) -> Outcome
         ensures { result ≡ spec.quiet self.now answer }
     {
         Outcome {

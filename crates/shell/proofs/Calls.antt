@@ -30,11 +30,7 @@ value_fits text h = second_true (nat_le 1 (length text)) (is_value text) (first_
 call_fits : (call : Call) → IsBuiltCall call → CallFits call
 call_fits calls.Begin h = tt
 call_fits (calls.Make t name kind) h = h.1
-call_fits (calls.Get t name key) h = tt
-call_fits (calls.GetForUpdate t name key) h = tt
-call_fits (calls.Set t name key value) h = (h.1, key_fits key h.2, value_fits value h.3)
-call_fits (calls.Add t name key value) h = (h.1, key_fits key h.2, value_fits value h.3)
-call_fits (calls.Delete t name key) h = (h.1, key_fits key h.2)
+call_fits (calls.OnKey t name key asked) h = tt
 call_fits (calls.Commit t) h = tt
 call_fits (calls.Abort t) h = tt
 

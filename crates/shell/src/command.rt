@@ -14,8 +14,9 @@ ghost use Rattle.shell.specs.Reached.{Done, HasEnded, GoesOn, status_of};
 use crate::kit::Kit;
 use crate::lines::{WriteError, write_bad_line, write_limit, write_lines, write_usage};
 use disk_model::CrashDisk;
+use events::Event;
 use rc_io::{Host, LineReader, Next, Sink, Source};
-use script_text::{Event, ScriptError, read_event};
+use script_text::{ScriptError, read_event};
 use std::alloc::Global;
 use world::{World, WorldError};
 

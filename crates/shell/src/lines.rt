@@ -6,10 +6,11 @@ ghost use Rattle.shell.specs.Reached.{Writes};
 ghost use Rattle.shell.specs.declared.lines.WriteError.TheVariants.{NoMemory as no_memory};
 
 use itoa::Buffer;
-use order_machine::{Observation, print};
+use order_machine::Observation;
 use rc_base::{LimitName, NoMemory};
 use rc_io::{Sink, write_all};
 use std::alloc::{AllocError, AllocFailed, Global};
+use transcript_text::print;
 
 /// Why a text was not written whole.
 #[derive(Clone, Copy, Debug)]

@@ -28,6 +28,7 @@ use Rattle.key_locks.proofs.Flat.{alike_released}
 use Rattle.lock_laws.proofs.ProtectedCalls.{AreProtected-released}
 use Rattle.world.proofs.Quiet.{holds_behind}
 use Rattle.world.proofs.Told.{machine_of, IsKnown, known_of, answer_told}
+use Rattle.events.specs.declared.answer.Answer.TheVariants as answers
 
 -- the transaction goes on no more, and its locks go
 abbrev pub Ends : Fronted → Fronted → TxnId → Type 0
@@ -37,7 +38,7 @@ abbrev ended_of : Txn → Txn
 ended_of x = record x { live = false }
 
 abbrev done_call : TxnId → CallRecord
-done_call t = record { call = Abort t; answer = says.Done; op = None }
+done_call t = record { call = Abort t; answer = answers.Done; op = None }
 
 each_aborted : (front new : Fronted) (shown : ℕ) (contents : State) (m : Machine) (h : Runs front shown contents m) (t : TxnId) (g : Going) (k : IsKnown front shown contents m h t g) → Ends front new t →
     (u : TxnId) (y : Txn) (b : Bool) → is_txn u t ≡ b → cond b (Some (with_call (ended_of k.txn) (done_call t))) (cond b (Some (ended_of k.txn)) (lookup (is_txn u) h.txns)) ≡ Some y → IsKept h.course new (released h.grants t) h.entries h.acknowledged u y
@@ -100,10 +101,10 @@ aborted_serves front new shown contents m t g h is c =
     let there : going_at n 0 t ≡ Some k.txn = cond-true _ (lookup (is_txn t) h.txns) None k.live_there ∙ k.known in
     let now : Machine = running h.entries h.acknowledged ((t, ended_of k.txn) ∷ h.txns) front.begins (released h.grants t) h.course in
     let asked : asking n 0 (Abort t) ≡ now = ap (λ o. option_map_or (λ x. put_txn (put_grants n 0 (released h.grants t)) t (ended_of x)) o n) there in
-    let says_so : told front contents (Abort t) ≡ Some (plain says.Done) = going_told front contents (Abort t) t g refl is in
+    let says_so : told front contents (Abort t) ≡ Some (plain answers.Done) = going_told front contents (Abort t) t g refl is in
     let then = aborted_runs front new shown contents m h t g k c in
     let known_now : lookup (is_txn t) now.txns ≡ Some (ended_of k.txn) = cond-true (is_txn t t) (Some (ended_of k.txn)) (lookup (is_txn t) h.txns) (is_txn_same t) in
     let R : Option Txn → Type 0 = λ o. RunsWith h.entries h.course new shown contents (option_map_or (λ y. put_txn now t (with_call y (done_call t))) o now) in
     let all = subst R (sym known_now) (then, (refl, refl)) in
     let P : Machine → Type 0 = λ at. IsWhole at (Client 0 (Abort t)) (says.Done ∷ []) × RunsWith h.entries h.course new shown contents (moved at (Client 0 (Abort t)) (says.Done ∷ [])) in
-    subst P (sym h.is) (answer_serves n now 0 (Abort t) says.Done None (RunsWith h.entries h.course new shown contents) (running_unrefused front shown contents m h (Abort t)) asked (answer_told front shown contents m h (Abort t) ∙ says_so) refl (holds_behind _ _ _ _ all.0) all)
+    subst P (sym h.is) (answer_serves n now 0 (Abort t) answers.Done None (RunsWith h.entries h.course new shown contents) (running_unrefused front shown contents m h (Abort t)) asked (answer_told front shown contents m h (Abort t) ∙ says_so) refl (holds_behind _ _ _ _ all.0) all)

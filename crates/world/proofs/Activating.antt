@@ -27,18 +27,19 @@ use Rattle.world.proofs.Later.{ruled_of, replica_of, as_replica, booted_stands, 
 use Rattle.world.proofs.Ruled.{activation_same, noted_current, noted_dropped}
 use Rattle.world.proofs.Served.{served_from}
 use Rattle.world.proofs.Still.{stands_still}
+use Rattle.events.specs.declared.answer.Answer.TheVariants as answers
 
 -- ---- refusals
 
-refusal_same : (k : Kept) (images : Areas → Type 0) (e : Epoch) (known : Known) (part : Option ℕ) → k.rule ≡ Some known → broken_activation known e ≡ part → (m : Machine) → StandsFor k images m → refusal m (Activate e) ≡ option_map says.Refused part
+refusal_same : (k : Kept) (images : Areas → Type 0) (e : Epoch) (known : Known) (part : Option ℕ) → k.rule ≡ Some known → broken_activation known e ≡ part → (m : Machine) → StandsFor k images m → refusal m (Activate e) ≡ option_map answers.Refused part
 refusal_same k images e known part rule broken m s =
     let booted : has_booted k ≡ true = ap is_some rule in
     let r = ruled_of k images m booted s in
     let same : r.known ≡ known = same_Some r.known known (sym r.rule ∙ rule) in
     let here : broken_activation (known_of m) e ≡ part = sym (activation_same k m r e) ∙ (ap (λ (x : Known). broken_activation x e) same ∙ broken) in
-    once_standing m (option_map says.Refused (broken_activation (known_of m) e)) (booted_stands k images m booted s) ∙ ap (option_map says.Refused) here
+    once_standing m (option_map answers.Refused (broken_activation (known_of m) e)) (booted_stands k images m booted s) ∙ ap (option_map answers.Refused) here
 
-pub activation_refused : (k : Kept) (images : Areas → Type 0) (e : Epoch) (known : Known) (part : ℕ) → k.rule ≡ Some known → broken_activation known e ≡ Some part → (m : Machine) → StandsFor k images m → refusal m (Activate e) ≡ Some (says.Refused part)
+pub activation_refused : (k : Kept) (images : Areas → Type 0) (e : Epoch) (known : Known) (part : ℕ) → k.rule ≡ Some known → broken_activation known e ≡ Some part → (m : Machine) → StandsFor k images m → refusal m (Activate e) ≡ Some (answers.Refused part)
 activation_refused k images e known part rule broken m s = refusal_same k images e known (Some part) rule broken m s
 
 -- ---- what it changes

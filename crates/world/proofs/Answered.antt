@@ -17,14 +17,17 @@ use Rattle.world.proofs.Booted.{once_standing}
 use Rattle.world.proofs.Refusals.{refused_serves}
 use Rattle.world.proofs.Later.{new_of, closed_of, open_of, booted_stands, up_role, stands_later}
 use Rattle.world.proofs.Still.{stands_still}
+use Rattle.events.specs.declared.answer.Answer.TheVariants as answers
+use Rattle.order_machine.specs.AnswerLines.{line_of_answer}
+use Rattle.events.specs.declared.answer.Answer.{Answer}
 
 -- what the event changes where it is answered so: nothing
 pub record IsAnswered (m : Machine) (event : Event) (o : Observation) : Type 0 where
   pub whole : IsWhole m event (o ∷ [])
   pub same : moved m event (o ∷ []) ≡ m
 
-pub answered_refused : (m : Machine) (event : Event) (o : Observation) → refusal m event ≡ Some o → IsAnswered m event o
-answered_refused m event o e = let r = refused_serves m event o e in record { whole = r.0; same = r.1 }
+pub answered_refused : (m : Machine) (event : Event) (told : Answer) → refusal m event ≡ Some told → IsAnswered m event (line_of_answer told)
+answered_refused m event told e = let r = refused_serves m event told e in record { whole = r.0; same = r.1 }
 
 -- ---- the event is served
 
@@ -54,22 +57,22 @@ err_serves old new before now event result e still y is =
 -- ---- which are answered so
 
 -- before the boot
-pub new_refuses : (k : Kept) (images : Areas → Type 0) (event : Event) → has_booted k ≡ false → refusal empty_machine event ≡ Some (says.Refused 9) → (m : Machine) → StandsFor k images m → refusal m event ≡ Some (says.Refused 9)
-new_refuses k images event new e m s = let n = new_of k images m new s in subst (λ x. refusal x event ≡ Some (says.Refused 9)) (sym n.is) e
+pub new_refuses : (k : Kept) (images : Areas → Type 0) (event : Event) → has_booted k ≡ false → refusal empty_machine event ≡ Some (answers.Refused 9) → (m : Machine) → StandsFor k images m → refusal m event ≡ Some (answers.Refused 9)
+new_refuses k images event new e m s = let n = new_of k images m new s in subst (λ x. refusal x event ≡ Some (answers.Refused 9)) (sym n.is) e
 
 -- a second boot
-pub boot_refuses : (k : Kept) (images : Areas → Type 0) → has_booted k ≡ true → (m : Machine) → StandsFor k images m → refusal m (Boot 0 (0 ∷ [])) ≡ Some (says.Refused 9)
+pub boot_refuses : (k : Kept) (images : Areas → Type 0) → has_booted k ≡ true → (m : Machine) → StandsFor k images m → refusal m (Boot 0 (0 ∷ [])) ≡ Some (answers.Refused 9)
 boot_refuses k images booted m s = rw (booted_stands k images m booted s) refl
 
 -- what asks something of a closed replica
-pub arm_down : (k : Kept) (images : Areas → Type 0) (calls : ℕ) → has_booted k ≡ true → k.replica ≡ None → (m : Machine) → StandsFor k images m → refusal m (Arm 0 calls) ≡ Some (says.Down 0)
+pub arm_down : (k : Kept) (images : Areas → Type 0) (calls : ℕ) → has_booted k ≡ true → k.replica ≡ None → (m : Machine) → StandsFor k images m → refusal m (Arm 0 calls) ≡ Some (answers.Down 0)
 arm_down k images calls booted none m s = let c = closed_of k images m booted none s in once_standing m (down_of m 0) (booted_stands k images m booted s) ∙ rw c.is_shut.is refl
 
-pub inspect_down : (k : Kept) (images : Areas → Type 0) → has_booted k ≡ true → k.replica ≡ None → (m : Machine) → StandsFor k images m → refusal m (Inspect 0) ≡ Some (says.Down 0)
+pub inspect_down : (k : Kept) (images : Areas → Type 0) → has_booted k ≡ true → k.replica ≡ None → (m : Machine) → StandsFor k images m → refusal m (Inspect 0) ≡ Some (answers.Down 0)
 inspect_down k images booted none m s = let c = closed_of k images m booted none s in once_standing m (down_of m 0) (booted_stands k images m booted s) ∙ rw c.is_shut.is refl
 
 -- what opens an open one
-pub reboot_ignored : (k : Kept) (images : Areas → Type 0) (r : Open) → has_booted k ≡ true → k.replica ≡ Some r → (m : Machine) → StandsFor k images m → refusal m (Reboot 0) ≡ Some says.IgnoredUp
+pub reboot_ignored : (k : Kept) (images : Areas → Type 0) (r : Open) → has_booted k ≡ true → k.replica ≡ Some r → (m : Machine) → StandsFor k images m → refusal m (Reboot 0) ≡ Some answers.IgnoredUp
 reboot_ignored k images r booted some m s = rw (booted_stands k images m booted s, up_role r.role k.last r images m (open_of k images m r booted some s)) refl
 
 -- the same, of another error that tells want of memory

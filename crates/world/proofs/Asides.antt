@@ -9,16 +9,18 @@ use Rattle.order_machine.specs.Contents.{rows_of}
 use Rattle.order_machine.specs.Transitions.{Position, HoldsBehind, IsComplete, opened, once_booted}
 use Rattle.order_machine.specs.Legal.{Lines, behind, IsWhole, moved}
 use Rattle.world.proofs.Served.{served_from}
+use Rattle.events.specs.declared.answer.Answer.TheVariants as answers
+use Rattle.events.specs.declared.answer.Answer.{Answer}
 
 -- an open replica of a booted world refuses neither
-unrefused : (m : Machine) (refused : Option Observation) → is_booted m ≡ true → (replica m 0).up ≡ true → once_booted m (cond (replica m 0).up None refused) ≡ None
-unrefused m refused booted up = ap (λ b. cond b (cond (replica m 0).up None refused) (Some (says.Refused 9))) booted ∙ ap (λ b. cond b None refused) up
+unrefused : (m : Machine) (refused : Option Answer) → is_booted m ≡ true → (replica m 0).up ≡ true → once_booted m (cond (replica m 0).up None refused) ≡ None
+unrefused m refused booted up = ap (λ b. cond b (cond (replica m 0).up None refused) (Some (answers.Refused 9))) booted ∙ ap (λ b. cond b None refused) up
 
 -- ---- arm
 
 pub arm_serves : (m : Machine) (k : ℕ) → is_booted m ≡ true → (replica m 0).up ≡ true → HoldsBehind m → IsWhole m (Arm 0 k) (says.Done ∷ []) × (moved m (Arm 0 k) (says.Done ∷ []) ≡ m)
 arm_serves m k booted up holds =
-    served_from m (Arm 0 k) (says.Done ∷ []) (opened m (Arm 0 k)) (λ n. n ≡ m) (unrefused m (Some (says.Down 0)) booted up) refl
+    served_from m (Arm 0 k) (says.Done ∷ []) (opened m (Arm 0 k)) (λ n. n ≡ m) (unrefused m (Some (answers.Down 0)) booted up) refl
     (record {
       may = (record { named = refl; in_rank = refl; next = refl; goes_on = refl; row = refl }, tt);
       complete = record { opened = refl; grown = refl; mounted = refl; told = refl; answered = refl };
@@ -62,7 +64,7 @@ inspection m = says.State 0 (length (rows_shown m)) ∷ map says.Rows (rows_show
 pub inspect_serves : (m : Machine) → is_booted m ≡ true → (replica m 0).up ≡ true → HoldsBehind m → IsWhole m (Inspect 0) (inspection m) × (moved m (Inspect 0) (inspection m) ≡ m)
 inspect_serves m booted up holds =
     let told : behind (telling m (rows_shown m)) (map says.Rows (rows_shown m)) ≡ telling m [] = rows_behind m (rows_shown m) in
-    served_from m (Inspect 0) (inspection m) (opened m (Inspect 0)) (λ n. n ≡ m) (unrefused m (Some (says.Down 0)) booted up) refl
+    served_from m (Inspect 0) (inspection m) (opened m (Inspect 0)) (λ n. n ≡ m) (unrefused m (Some (answers.Down 0)) booted up) refl
     (record {
       may = (record { named = refl; in_rank = refl; next = refl; goes_on = refl; row = (refl, refl, refl) }, rows_may m (rows_shown m));
       complete = subst IsComplete (sym told) (record { opened = refl; grown = refl; mounted = refl; told = refl; answered = refl });

@@ -15,7 +15,7 @@ use Rattle.key_locks.specs.Grants.{Grant}
 use Rattle.key_locks.specs.Grants as key_locks
 use Rattle.events.specs.declared.event.Event.TheVariants.{Client}
 use Rattle.events.specs.declared.call.Call.{Call}
-use Rattle.events.specs.declared.call.Call.TheVariants.{Begin, Make, Get, GetForUpdate, Set, Add, Delete, Commit, Abort}
+use Rattle.events.specs.declared.call.Call.TheVariants.{Begin, Make, OnKey, Commit, Abort}
 use Rattle.order_machine.specs.declared.observation.Observation.TheVariants as says
 use Rattle.events.specs.declared.answer.Reply.{Reply}
 use Rattle.order_machine.specs.Machine.{Machine, Txn, put_txn, put_grants, grants_of, ops_of}
@@ -35,6 +35,8 @@ use Rattle.world.proofs.Changed.{ChangesAt, at_own, at_other, kept_other, with_c
 use Rattle.lock_laws.proofs.ProtectedCalls.{AreProtected-taken, AreProtected-push, IsCallProtected-live}
 use Rattle.world.proofs.Quiet.{holds_behind}
 use Rattle.world.proofs.Told.{machine_of, IsKnown, known_of, answer_told, live_reply_alike}
+use Rattle.events.specs.declared.answer.Answer.TheVariants as answers
+use Rattle.order_machine.specs.AnswerLines.{line_of_answer}
 
 -- it goes on with what it was answered
 abbrev pub more_done : Going → Option Op → Going
@@ -47,11 +49,7 @@ grants_then front contents t g call = taken front.grants t (locks_at (folded con
 abbrev pub IsInCollection : Call → Type 0
 IsInCollection Begin = ⊥
 IsInCollection (Make t name kind) = Unit {0}
-IsInCollection (Get t name key) = Unit {0}
-IsInCollection (GetForUpdate t name key) = Unit {0}
-IsInCollection (Set t name key value) = Unit {0}
-IsInCollection (Add t name key value) = Unit {0}
-IsInCollection (Delete t name key) = Unit {0}
+IsInCollection (OnKey t name key asked) = Unit {0}
 IsInCollection (Commit t) = ⊥
 IsInCollection (Abort t) = ⊥
 
@@ -64,8 +62,8 @@ pub record IsAsked (front new : Fronted) (contents : State) (t : TxnId) (g : Goi
 -- what a call of what goes on is told
 pub going_told : (front : Fronted) (contents : State) (call : Call) (t : TxnId) (g : Going) → txn_named call ≡ Some t → going_of front t ≡ Some g → told front contents call ≡ live_reply front.grants (folded contents g.ops) t call
 going_told front contents call t g named is =
-    ap (λ o. option_map_or (λ u. option_map_or (λ going. live_reply front.grants (folded contents going.ops) u call) (going_of front u) (Some (plain (says.Ended u)))) o (Some (plain (says.Txn (txn_at front (front.begins + 1)))))) named
-    ∙ ap (λ o. option_map_or (λ going. live_reply front.grants (folded contents going.ops) t call) o (Some (plain (says.Ended t)))) is
+    ap (λ o. option_map_or (λ u. option_map_or (λ going. live_reply front.grants (folded contents going.ops) u call) (going_of front u) (Some (plain (answers.Ended u)))) o (Some (plain (answers.Txn (txn_at front (front.begins + 1)))))) named
+    ∙ ap (λ o. option_map_or (λ going. live_reply front.grants (folded contents going.ops) t call) o (Some (plain (answers.Ended t)))) is
 
 -- its asking takes the locks
 by_some : {A : Type 0} (f : Txn → A) (x : A) (o : Option Txn) (y : Txn) → o ≡ Some y → option_map_or f o x ≡ f y
@@ -82,11 +80,7 @@ same_asks m call u t x named is =
 collection_asking : (m : Machine) (call : Call) (t : TxnId) (x : Txn) → IsInCollection call → txn_named call ≡ Some t → going_at m 0 t ≡ Some x → asking m 0 call ≡ asks m call t x
 collection_asking m Begin t x in_one named is = absurd in_one
 collection_asking m (Make u name kind) t x in_one named is = same_asks m (Make u name kind) u t x named is
-collection_asking m (Get u name key) t x in_one named is = same_asks m (Get u name key) u t x named is
-collection_asking m (GetForUpdate u name key) t x in_one named is = same_asks m (GetForUpdate u name key) u t x named is
-collection_asking m (Set u name key value) t x in_one named is = same_asks m (Set u name key value) u t x named is
-collection_asking m (Add u name key value) t x in_one named is = same_asks m (Add u name key value) u t x named is
-collection_asking m (Delete u name key) t x in_one named is = same_asks m (Delete u name key) u t x named is
+collection_asking m (OnKey u name key asked) t x in_one named is = same_asks m (OnKey u name key asked) u t x named is
 collection_asking m (Commit u) t x in_one named is = absurd in_one
 collection_asking m (Abort u) t x in_one named is = absurd in_one
 
@@ -166,7 +160,7 @@ asked_runs front new shown contents m h call t g k reply in_one is a says_so = r
     known_there u f e false other = h.live_known u f (sym (at_other front new front.begins t (Some a.then) (grants_then front contents t g call) a.changes u other) ∙ e)
 
 pub asked_serves : (front new : Fronted) (shown : ℕ) (contents : State) (m : Machine) (call : Call) (t : TxnId) (g : Going) (reply : Reply) → IsInCollection call → txn_named call ≡ Some t → (h : Runs front shown contents m) → going_of front t ≡ Some g → told front contents call ≡ Some reply → IsAsked front new contents t g call reply.op →
-    IsWhole m (Client 0 call) (reply.answer ∷ []) × RunsWith h.entries h.course new shown contents (moved m (Client 0 call) (reply.answer ∷ []))
+    IsWhole m (Client 0 call) (line_of_answer reply.answer ∷ []) × RunsWith h.entries h.course new shown contents (moved m (Client 0 call) (line_of_answer reply.answer ∷ []))
 unfolding asked_runs
 asked_serves front new shown contents m call t g reply in_one named h is says_so a =
     let n : Machine = machine_of h in
@@ -179,5 +173,5 @@ asked_serves front new shown contents m call t g reply in_one named h is says_so
     let R : Option Txn → Type 0 = λ o. RunsWith h.entries h.course new shown contents (option_map_or (λ y. put_txn now t (with_call y (noted_call call reply))) o now) in
     let S : Option TxnId → Type 0 = λ o. RunsWith h.entries h.course new shown contents (option_map_or (λ v. noted now v (noted_call call reply)) o (begun_by now 0 reply.answer)) in
     let all = subst S (sym named) (subst R (sym k.known) (then, (refl, refl))) in
-    let P : Machine → Type 0 = λ at. IsWhole at (Client 0 call) (reply.answer ∷ []) × RunsWith h.entries h.course new shown contents (moved at (Client 0 call) (reply.answer ∷ [])) in
+    let P : Machine → Type 0 = λ at. IsWhole at (Client 0 call) (line_of_answer reply.answer ∷ []) × RunsWith h.entries h.course new shown contents (moved at (Client 0 call) (line_of_answer reply.answer ∷ [])) in
     subst P (sym h.is) (answer_serves n now 0 call reply.answer reply.op (RunsWith h.entries h.course new shown contents) (running_unrefused front shown contents m h call) asked (answer_told front shown contents m h call ∙ says_so) (live_reply_is front.grants (folded contents g.ops) t call reply (sym (going_told front contents call t g named is) ∙ says_so)) (holds_behind _ _ _ _ all.0) all)

@@ -10,7 +10,7 @@ use Rattle.rc_base.specs.Ids.{is_txn, epoch_le}
 use Rattle.rc_base.proofs.SameIds.{is_txn-true, is_txn_same}
 use Rattle.coll_model.specs.Effect.{State}
 use Rattle.events.specs.declared.call.Call.{Call}
-use Rattle.events.specs.declared.call.Call.TheVariants.{Begin, Make, Get, GetForUpdate, Set, Add, Delete, Commit, Abort}
+use Rattle.events.specs.declared.call.Call.TheVariants.{Begin, Make, OnKey, Commit, Abort}
 use Rattle.order_machine.specs.Machine.{Machine, Txn, ended_at, put_txn, put_grants, grants_of}
 use Rattle.order_machine.specs.Transitions.{asking, asking_locks, going_at}
 use Rattle.order_machine.specs.Clients.{seen}
@@ -71,11 +71,7 @@ here_asking course m call here = by call
     by : (c : Call) → P (asking m 0 c)
     by Begin = here
     by (Make t name kind) = locks t (Make t name kind)
-    by (Get t name key) = locks t (Get t name key)
-    by (GetForUpdate t name key) = locks t (GetForUpdate t name key)
-    by (Set t name key value) = locks t (Set t name key value)
-    by (Add t name key value) = locks t (Add t name key value)
-    by (Delete t name key) = locks t (Delete t name key)
+    by (OnKey t name key asked) = locks t (OnKey t name key asked)
     by (Commit t) = either (λ x. put_txn m t (record x { live = false; asked = true })) (going_at m 0 t) (λ x e. here_put course m.txns t x (record x { live = false; asked = true }) here (going_known m t x e) refl)
     by (Abort t) = either (λ x. put_txn (put_grants m 0 (released (grants_of m 0) t)) t (record x { live = false })) (going_at m 0 t) (λ x e. here_put course m.txns t x (record x { live = false }) here (going_known m t x e) refl)
 

@@ -23,6 +23,7 @@ use Rattle.world.proofs.Changed.{ChangesAt, at_own, at_other, kept_other}
 use Rattle.world.proofs.Quiet.{holds_behind}
 use Rattle.replica.proofs.EpochOrder.{epoch_le_refl}
 use Rattle.world.proofs.Told.{machine_of}
+use Rattle.events.specs.declared.answer.Answer.TheVariants as answers
 
 -- the transaction that begins next
 abbrev pub next : Fronted → TxnId
@@ -102,4 +103,4 @@ begin_serves front new shown contents m h c =
     let Q : TxnId → Type 0 = λ t. IsWhole m (Client 0 Begin) (says.Txn t ∷ []) × RunsWith h.entries h.course new shown contents (moved m (Client 0 Begin) (says.Txn t ∷ [])) in
     let then = begin_runs front new shown contents m h c in
     let n : Machine = machine_of h in
-    subst Q (sym (next_is h.course front h.epoch)) (subst P (sym h.is) (answer_serves n n 0 Begin (says.Txn (next_here h.course front)) None (RunsWith h.entries h.course new shown contents) (running_unrefused front shown contents m h Begin) refl refl refl (holds_behind _ _ _ _ then) (then, (refl, refl))))
+    subst Q (sym (next_is h.course front h.epoch)) (subst P (sym h.is) (answer_serves n n 0 Begin (answers.Txn (next_here h.course front)) None (RunsWith h.entries h.course new shown contents) (running_unrefused front shown contents m h Begin) refl refl refl (holds_behind _ _ _ _ then) (then, (refl, refl))))

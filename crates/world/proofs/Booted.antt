@@ -13,6 +13,8 @@ use Rattle.coll_model.specs.Effect.{State}
 use Rattle.txn_front.specs.Front.{Fronted}
 use Rattle.world.specs.Running.{running, Runs}
 use Rattle.world.specs.Standing.{Course, standing, serving}
+use Rattle.events.specs.declared.answer.Answer.TheVariants as answers
+use Rattle.events.specs.declared.answer.Answer.{Answer}
 
 some_first : (n : ℕ) → not (suc n == 0) ≡ true
 some_first n = grind (arith, nat_tests)
@@ -21,8 +23,8 @@ pub standing_booted : (entries : List Entry) (acknowledged : List TxnId) (first 
 standing_booted entries acknowledged first txns course = some_first (length course.later)
 
 -- what a booted world refuses is told by the event alone
-pub once_standing : (m : Machine) (refused : Option Observation) → is_booted m ≡ true → once_booted m refused ≡ refused
-once_standing m refused booted = ap (λ b. cond b refused (Some (says.Refused 9))) booted
+pub once_standing : (m : Machine) (refused : Option Answer) → is_booted m ≡ true → once_booted m refused ≡ refused
+once_standing m refused booted = ap (λ b. cond b refused (Some (answers.Refused 9))) booted
 
 pub call_unrefused : (entries : List Entry) (acknowledged : List TxnId) (first : Replica) (txns : List (TxnId × Txn)) (course : Course) (call : Call) → refusal (standing entries acknowledged first txns course) (Client 0 call) ≡ None
 call_unrefused entries acknowledged first txns course call = once_standing (standing entries acknowledged first txns course) None (standing_booted entries acknowledged first txns course)

@@ -17,7 +17,7 @@ use Rattle.log_store.specs.Log.{commits_in}
 use Rattle.log_store.specs.Store.{Store}
 use Rattle.events.specs.declared.event.Event.TheVariants.{Client}
 use Rattle.events.specs.declared.call.Call.{Call}
-use Rattle.events.specs.declared.call.Call.TheVariants.{Begin, Make, Get, GetForUpdate, Set, Add, Delete, Commit, Abort}
+use Rattle.events.specs.declared.call.Call.TheVariants.{Begin, Make, OnKey, Commit, Abort}
 use Rattle.order_machine.specs.declared.observation.Observation.{Observation}
 use Rattle.order_machine.specs.declared.observation.Observation.TheVariants as says
 use Rattle.events.specs.declared.answer.Reply.{Reply}
@@ -62,6 +62,8 @@ use Rattle.world.proofs.Sound.{BeginsWith, begins_still, sound_later, sound_txns
 use Rattle.world.proofs.Still.{of_one}
 use Rattle.world.proofs.Unserved.{not_active_serves}
 use Rattle.replica.proofs.Lengthened.{records_after, commits_after, logged_few}
+use Rattle.events.specs.declared.answer.Answer.TheVariants as answers
+use Rattle.order_machine.specs.AnswerLines.{line_of_answer}
 
 -- ---- what is known of a call once its steps were done
 
@@ -92,7 +94,7 @@ primary_active r log epoch active role agrees = let p = rw role at agrees.role i
 
 -- an active primary's reply
 pub active_reply : (r : Open) (call : Call) → is_active r.role ≡ true → reply r call ≡ told r.front r.contents call
-active_reply r call active = cond-true (is_active r.role) (told r.front r.contents call) (Some (plain (says.NotActive r.id))) active
+active_reply r call active = cond-true (is_active r.role) (told r.front r.contents call) (Some (plain (answers.NotActive r.id))) active
 
 -- the log behind a step is so many records longer
 pub longer : (r : Open) (event : _) (log : Log) → length (log_once r event log).records ≡ length log.records + length (logged r event)
@@ -119,8 +121,8 @@ continues_runs front new shown now_shown contents state m n most h w none =
 
 -- ---- at a replica that rests
 
-pub rests_reply : (r : Open) (call : Call) → r.role ≡ Other → reply r call ≡ Some (plain (says.NotActive r.id))
-rests_reply r call role = cond-false (is_active r.role) (told r.front r.contents call) (Some (plain (says.NotActive r.id))) (ap is_active role)
+pub rests_reply : (r : Open) (call : Call) → r.role ≡ Other → reply r call ≡ Some (plain (answers.NotActive r.id))
+rests_reply r call role = cond-false (is_active r.role) (told r.front r.contents call) (Some (plain (answers.NotActive r.id))) (ap is_active role)
 
 -- the log behind these records
 abbrev pub log_with : Open → Log → List Record → Log
@@ -137,7 +139,7 @@ rests_logs r call off = by (txn_named call)
 pub rests_done : (last number : ℕ) (r r' : Open) (call : Call) (before now : Areas → Type 0) (lines : List Observation) (m : Machine) → last < number → r.role ≡ Other → Resting last r before m → IsDone r r' call before now lines → IsServed number r' now call lines m
 rests_done last number r r' call before now lines m later role s d =
     let off : is_active r.role ≡ false = ap is_active role in
-    let quiet = told_is r call (plain (says.NotActive r.id)) (rests_reply r call role) in
+    let quiet = told_is r call (plain (answers.NotActive r.id)) (rests_reply r call role) in
     let same : finished r (steps.Client call) ≡ r = quiet.keeps ∙ cond-false (is_active r.role) (answered (length (logged_by r call)) call r) r off in
     let kept : r' ≡ over r'.log r'.front r = d.kept ∙ ap (over r'.log r'.front) same in
     let begins : r'.front.begins ≡ r.front.begins = ap (λ (f : Fronted). f.begins) d.alike.same ∙ ap (λ (x : Open). x.front.begins) same in
@@ -185,7 +187,7 @@ AreRecorded f = (t : TxnId) (g : Going) → going_of f t ≡ Some g → (g.last.
 
 -- a call that is answered
 told_done : (last number : ℕ) (r r' : Open) (call : Call) (before now : Areas → Type 0) (lines : List Observation) (given : Reply) (m : Machine) (epoch : Epoch) (active : Bool) → last < number → r.role ≡ Primary epoch active → (s : Serving last r before m) → IsDone r r' call before now lines → reply r call ≡ Some given →
-    IsWhole m (Client 0 call) (given.answer ∷ []) → RunsWith s.runs.entries s.runs.course r'.front r.shown r.contents (moved m (Client 0 call) (given.answer ∷ [])) → KeepsAll r (called r call) → committed_by r (steps.Client call) ≡ [] → r'.front.begins ≤ number → AreRecorded r'.front → IsServed number r' now call lines m
+    IsWhole m (Client 0 call) (line_of_answer given.answer ∷ []) → RunsWith s.runs.entries s.runs.course r'.front r.shown r.contents (moved m (Client 0 call) (line_of_answer given.answer ∷ [])) → KeepsAll r (called r call) → committed_by r (steps.Client call) ≡ [] → r'.front.begins ≤ number → AreRecorded r'.front → IsServed number r' now call lines m
 told_done last number r r' call before now lines given m epoch active later role s d says_so whole runs keeps no_commit few recorded =
     let event = steps.Client call in
     let quiet = told_is r call given says_so in
@@ -196,7 +198,7 @@ told_done last number r r' call before now lines given m epoch active later role
     let short : length log1.records ≤ 3 * number = let k = s.short in let l = longer r event s.log in let f = logged_few r event in omega (arith, k, l, f, later) in
     let shown : r.shown ≡ r'.shown = sym (ap (λ (x : Open). x.shown) kept ∙ keeps.shown) in
     let contents : r.contents ≡ r'.contents = sym (ap (λ (x : Open). x.contents) kept ∙ keeps.contents) in
-    let n : Machine = moved m (Client 0 call) (given.answer ∷ []) in
+    let n : Machine = moved m (Client 0 call) (line_of_answer given.answer ∷ []) in
     let runs_now : RunsWith s.runs.entries s.runs.course r'.front r'.shown r'.contents n = subst (λ k. RunsWith s.runs.entries s.runs.course r'.front k r'.contents n) shown (subst (λ c. RunsWith s.runs.entries s.runs.course r'.front r.shown c n) contents runs) in
     let fence : IsFence s.runs.course r'.fence = subst (λ (x : Open). IsFence s.runs.course x.fence) (sym kept) (fence_called s.runs.course r call s.fence (latest_low s.runs.course r.epoch s.epoch)) in
     let then : Serving number r' now n = record {
@@ -212,7 +214,7 @@ told_done last number r r' call before now lines given m epoch active later role
       recorded = recorded;
     } in
     let Q : List Observation → Type 0 = λ ls. IsServed number r' now call ls m in
-    subst Q (sym (d.lines ∙ quiet.lines)) (whole, as_primary number r' now n epoch active (ap (λ (x : Open). x.role) kept ∙ (keeps.role ∙ role)) then, holds_from last r before now m log1 s is_open.stands (begins_all s.runs.entries log1 commits), continues_runs r.front r'.front r.shown r'.shown r.contents r'.contents m n (most_shown (given.answer ∷ [])) s.runs runs_now (answer_shows given.answer (reply_answers r call given says_so)))
+    subst Q (sym (d.lines ∙ quiet.lines)) (whole, as_primary number r' now n epoch active (ap (λ (x : Open). x.role) kept ∙ (keeps.role ∙ role)) then, holds_from last r before now m log1 s is_open.stands (begins_all s.runs.entries log1 commits), continues_runs r.front r'.front r.shown r'.shown r.contents r'.contents m n (most_shown (line_of_answer given.answer ∷ [])) s.runs runs_now (answer_shows given.answer))
 
 -- what goes on is recorded as before, but for one transaction
 pub recorded_at : (f f' : Fronted) (begins : ℕ) (t : TxnId) (then : Option Going) (grants : _) → ChangesAt f f' begins t then grants → AreRecorded f → ((g : Going) → then ≡ Some g → (g.last.0 == 0) ≡ (length g.ops == 0)) → AreRecorded f'
@@ -227,13 +229,13 @@ recorded_at f f' begins t then grants c old new u g is = by (is_txn u t) (sym (c
 pub begin_done : (last number : ℕ) (r r' : Open) (before now : Areas → Type 0) (lines : List Observation) (m : Machine) (epoch : Epoch) (active : Bool) → last < number → r.role ≡ Primary epoch active → Serving last r before m → IsDone r r' Begin before now lines → IsServed number r' now Begin lines m
 begin_done last number r r' before now lines m epoch active later role s d =
     let on : is_active r.role ≡ true = primary_active r s.log epoch active role s.is_open.agrees in
-    let says_so : reply r Begin ≡ Some (plain (says.Txn (next r.front))) = active_reply r Begin on in
+    let says_so : reply r Begin ≡ Some (plain (answers.Txn (next r.front))) = active_reply r Begin on in
     let is : called r Begin ≡ record r { front = front.begun r.front } = cond-true (is_active r.role) (record r { front = front.begun r.front }) r on in
-    let then : finished r (steps.Client Begin) ≡ record r { front = front.begun r.front } = (told_is r Begin (plain (says.Txn (next r.front))) says_so).keeps ∙ is in
+    let then : finished r (steps.Client Begin) ≡ record r { front = front.begun r.front } = (told_is r Begin (plain (answers.Txn (next r.front))) says_so).keeps ∙ is in
     let alike : AreAlike r'.front (front.begun r.front) = subst (λ (x : Open). AreAlike r'.front x.front) then d.alike in
     let begins : Begins r.front r'.front = changes_alike r.front (front.begun r.front) r'.front (r.front.begins + 1) (next r.front) (Some new_going) r.front.grants (begins_changes r.front r.contents s.is_open.agrees.over) alike in
     let serves = begin_serves r.front r'.front r.shown r.contents m s.runs begins in
-    told_done last number r r' Begin before now lines (plain (says.Txn (next r.front))) m epoch active later role s d says_so serves.0 serves.1
+    told_done last number r r' Begin before now lines (plain (answers.Txn (next r.front))) m epoch active later role s d says_so serves.0 serves.1
     (record { shown = ap (λ (x : Open). x.shown) is; contents = ap (λ (x : Open). x.contents) is; role = ap (λ (x : Open). x.role) is; epoch = ap (λ (x : Open). x.epoch) is })
     refl (let k = s.few in let b = begins.begins_now in omega (arith, k, b, later))
     (recorded_at r.front r'.front (r.front.begins + 1) (next r.front) (Some new_going) r.front.grants begins s.recorded (λ g e. by_new g (same_Some new_going g e)))
@@ -255,11 +257,7 @@ ended_with f u = record f { live = remove_entry (is_at (nat_cmp u.n)) f.live; gr
 none_answered : (r : Open) (call : Call) (t : TxnId) → txn_named call ≡ Some t → going_of r.front t ≡ None → answered zero call r ≡ r
 none_answered r Begin t named none = absurd (none-some t named)
 none_answered r (Make u name kind) t named none = ap (λ f. record r { front = f }) (called_ended r.front r.contents (Make u name kind) t named none)
-none_answered r (Get u name key) t named none = ap (λ f. record r { front = f }) (called_ended r.front r.contents (Get u name key) t named none)
-none_answered r (GetForUpdate u name key) t named none = ap (λ f. record r { front = f }) (called_ended r.front r.contents (GetForUpdate u name key) t named none)
-none_answered r (Set u name key value) t named none = ap (λ f. record r { front = f }) (called_ended r.front r.contents (Set u name key value) t named none)
-none_answered r (Add u name key value) t named none = ap (λ f. record r { front = f }) (called_ended r.front r.contents (Add u name key value) t named none)
-none_answered r (Delete u name key) t named none = ap (λ f. record r { front = f }) (called_ended r.front r.contents (Delete u name key) t named none)
+none_answered r (OnKey u name key asked) t named none = ap (λ f. record r { front = f }) (called_ended r.front r.contents (OnKey u name key asked) t named none)
 none_answered r (Commit u) t named none =
     let same : u ≡ t = same_Some u t named in
     ap (λ o. option_map_or (λ g. committed_open zero u g r) o r) (ap (going_of r.front) same ∙ none)
@@ -270,11 +268,7 @@ none_answered r (Abort u) t named none =
 none_commits : (r : Open) (call : Call) (t : TxnId) → is_active r.role ≡ true → txn_named call ≡ Some t → going_of r.front t ≡ None → committed_by r (steps.Client call) ≡ []
 none_commits r Begin t on named none = refl
 none_commits r (Make u name kind) t on named none = refl
-none_commits r (Get u name key) t on named none = refl
-none_commits r (GetForUpdate u name key) t on named none = refl
-none_commits r (Set u name key value) t on named none = refl
-none_commits r (Add u name key value) t on named none = refl
-none_commits r (Delete u name key) t on named none = refl
+none_commits r (OnKey u name key asked) t on named none = refl
 none_commits r (Commit u) t on named none =
     ap (λ o. option_map_or (λ (going : Going). one_commit u going) o []) (cond-true (is_active r.role) (going_of r.front u) None on ∙ (ap (going_of r.front) (same_Some u t named) ∙ none))
 none_commits r (Abort u) t on named none = refl
@@ -282,13 +276,13 @@ none_commits r (Abort u) t on named none = refl
 pub ended_done : (last number : ℕ) (r r' : Open) (call : Call) (t : TxnId) (before now : Areas → Type 0) (lines : List Observation) (m : Machine) (epoch : Epoch) (active : Bool) → last < number → r.role ≡ Primary epoch active → txn_named call ≡ Some t → going_of r.front t ≡ None → Serving last r before m → IsDone r r' call before now lines → IsServed number r' now call lines m
 ended_done last number r r' call t before now lines m epoch active later role named none s d =
     let on : is_active r.role ≡ true = primary_active r s.log epoch active role s.is_open.agrees in
-    let says_so : reply r call ≡ Some (plain (says.Ended t)) = active_reply r call on ∙ told_ended r.front r.contents call t named none in
+    let says_so : reply r call ≡ Some (plain (answers.Ended t)) = active_reply r call on ∙ told_ended r.front r.contents call t named none in
     let is : called r call ≡ r = cond-true (is_active r.role) (answered (length (logged_by r call)) call r) r on ∙ (ap (λ bodies. answered (length bodies) call r) (none_logs r call t on named none) ∙ none_answered r call t named none) in
-    let then : finished r (steps.Client call) ≡ r = (told_is r call (plain (says.Ended t)) says_so).keeps ∙ is in
+    let then : finished r (steps.Client call) ≡ r = (told_is r call (plain (answers.Ended t)) says_so).keeps ∙ is in
     let alike : AreAlike r'.front r.front = subst (λ (x : Open). AreAlike r'.front x.front) then d.alike in
     let serves = ended_serves r.front r.shown r.contents m call t named s.runs none in
     let begins : r'.front.begins ≡ r.front.begins = ap (λ (f : Fronted). f.begins) alike.same in
-    told_done last number r r' call before now lines (plain (says.Ended t)) m epoch active later role s d says_so serves.0 (runs_alike s.runs.entries s.runs.course r.front r'.front r.shown r.contents (moved m (Client 0 call) (says.Ended t ∷ [])) alike serves.1)
+    told_done last number r r' call before now lines (plain (answers.Ended t)) m epoch active later role s d says_so serves.0 (runs_alike s.runs.entries s.runs.course r.front r'.front r.shown r.contents (moved m (Client 0 call) (says.Ended t ∷ [])) alike serves.1)
     (record { shown = ap (λ (x : Open). x.shown) is; contents = ap (λ (x : Open). x.contents) is; role = ap (λ (x : Open). x.role) is; epoch = ap (λ (x : Open). x.epoch) is })
     (none_commits r call t on named none) (let k = s.few in omega (arith, k, begins, later))
     (λ u g e. s.recorded u g (sym (ap (λ (f : Fronted). going_of f u) alike.same) ∙ e))
@@ -304,11 +298,7 @@ collection_logs r call t g on in_one named is o e =
     by : (c : Call) → IsInCollection c → logged_call r.last t g c o ≡ logged_op r.last t g (option_and_then (λ given. given.op) o)
     by Begin i = absurd i
     by (Make u name kind) i = refl
-    by (Get u name key) i = refl
-    by (GetForUpdate u name key) i = refl
-    by (Set u name key value) i = refl
-    by (Add u name key value) i = refl
-    by (Delete u name key) i = refl
+    by (OnKey u name key asked) i = refl
     by (Commit u) i = absurd i
     by (Abort u) i = absurd i
 
@@ -321,22 +311,14 @@ collection_called r call on in_one = cond-true (is_active r.role) (answered (len
     by : (c : Call) (n : ℕ) → IsInCollection c → answered n c r ≡ asked_open r c n
     by Begin n i = absurd i
     by (Make u name kind) n i = refl
-    by (Get u name key) n i = refl
-    by (GetForUpdate u name key) n i = refl
-    by (Set u name key value) n i = refl
-    by (Add u name key value) n i = refl
-    by (Delete u name key) n i = refl
+    by (OnKey u name key asked) n i = refl
     by (Commit u) n i = absurd i
     by (Abort u) n i = absurd i
 
 pub collection_commits : (r : Open) (call : Call) → IsInCollection call → committed_by r (steps.Client call) ≡ []
 collection_commits r Begin i = refl
 collection_commits r (Make u name kind) i = refl
-collection_commits r (Get u name key) i = refl
-collection_commits r (GetForUpdate u name key) i = refl
-collection_commits r (Set u name key value) i = refl
-collection_commits r (Add u name key value) i = refl
-collection_commits r (Delete u name key) i = refl
+collection_commits r (OnKey u name key asked) i = refl
 collection_commits r (Commit u) i = absurd i
 collection_commits r (Abort u) i = refl
 
@@ -390,14 +372,14 @@ asked_done last number r r' call t g given before now lines m epoch active later
 pub aborted_done : (last number : ℕ) (r r' : Open) (t : TxnId) (g : Going) (before now : Areas → Type 0) (lines : List Observation) (m : Machine) (epoch : Epoch) (active : Bool) → last < number → r.role ≡ Primary epoch active → going_of r.front t ≡ Some g → Serving last r before m → IsDone r r' (Abort t) before now lines → IsServed number r' now (Abort t) lines m
 aborted_done last number r r' t g before now lines m epoch active later role is s d =
     let on : is_active r.role ≡ true = primary_active r s.log epoch active role s.is_open.agrees in
-    let says_so : reply r (Abort t) ≡ Some (plain says.Done) = active_reply r (Abort t) on ∙ going_told r.front r.contents (Abort t) t g refl is in
+    let says_so : reply r (Abort t) ≡ Some (plain answers.Done) = active_reply r (Abort t) on ∙ going_told r.front r.contents (Abort t) t g refl is in
     let count = length (logged_by r (Abort t)) in
     let x_is : called r (Abort t) ≡ record (lengthened count r.epoch r) { front = front.ended r.front t } = cond-true (is_active r.role) (answered count (Abort t) r) r on in
-    let then : finished r (steps.Client (Abort t)) ≡ record (lengthened count r.epoch r) { front = front.ended r.front t } = (told_is r (Abort t) (plain says.Done) says_so).keeps ∙ x_is in
+    let then : finished r (steps.Client (Abort t)) ≡ record (lengthened count r.epoch r) { front = front.ended r.front t } = (told_is r (Abort t) (plain answers.Done) says_so).keeps ∙ x_is in
     let alike : AreAlike r'.front (front.ended r.front t) = subst (λ (x : Open). AreAlike r'.front x.front) then d.alike in
     let ends : Ends r.front r'.front t = changes_alike r.front (front.ended r.front t) r'.front r.front.begins t None _ (ends_changes r.front r.contents t g s.is_open.agrees.over is) alike in
     let serves = aborted_serves r.front r'.front r.shown r.contents m t g s.runs is ends in
-    told_done last number r r' (Abort t) before now lines (plain says.Done) m epoch active later role s d says_so serves.0 serves.1
+    told_done last number r r' (Abort t) before now lines (plain answers.Done) m epoch active later role s d says_so serves.0 serves.1
     (keeps_lengthened r count (front.ended r.front t) (called r (Abort t)) x_is)
     refl (let k = s.few in let b = ends.begins_now in omega (arith, k, b, later))
     (recorded_at r.front r'.front r.front.begins t None _ ends s.recorded (λ h e. absurd (none-some h e)))

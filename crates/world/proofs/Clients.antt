@@ -27,6 +27,7 @@ use Rattle.world.proofs.Refusals.{refused_serves}
 use Rattle.world.proofs.Sound.{sound_later, sound_txns}
 use Rattle.world.proofs.Still.{stands_still}
 use Rattle.world.proofs.Unserved.{down_serves}
+use Rattle.events.specs.declared.answer.Answer.TheVariants as answers
 
 -- At each state that the world stands for, these are all lines of the call, and it stands for the state behind them.
 abbrev pub ServesCall : Kept → Kept → (Areas → Type 0) → (Areas → Type 0) → Call → List Observation → Type 0
@@ -103,7 +104,7 @@ client_down k number call images lines booted none later is m s =
 pub client_new : (k : Kept) (number : ℕ) (call : Call) (images : Areas → Type 0) (lines : List Observation) → has_booted k ≡ false → lines ≡ says.Refused 9 ∷ [] → ServesCall k (record k { last = number }) images images call lines
 client_new k number call images lines booted is m s =
     let new = new_of k images m booted s in
-    let serves = refused_serves empty_machine (Client 0 call) (says.Refused 9) refl in
+    let serves = refused_serves empty_machine (Client 0 call) (answers.Refused 9) refl in
     let P : Machine → Type 0 = λ at. IsWhole at (Client 0 call) (says.Refused 9 ∷ []) × (moved at (Client 0 call) (says.Refused 9 ∷ []) ≡ empty_machine) in
     let all : P m = subst P (sym new.is) (serves.0, serves.1) in
     let then : IsNew (record k { last = number }) images (moved m (Client 0 call) (says.Refused 9 ∷ [])) = record { is = all.1; closed = new.closed; unordered = new.unordered; empty = new.empty } in

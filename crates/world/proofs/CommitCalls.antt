@@ -12,7 +12,7 @@ use Rattle.log_store.specs.declared.kept.Kept.{Kept as Log}
 use Rattle.log_store.specs.Log.{commits_in}
 use Rattle.events.specs.declared.event.Event.TheVariants.{Client}
 use Rattle.events.specs.declared.call.Call.{Call}
-use Rattle.events.specs.declared.call.Call.TheVariants.{Begin, Make, Get, GetForUpdate, Set, Add, Delete, Commit, Abort}
+use Rattle.events.specs.declared.call.Call.TheVariants.{Begin, Make, OnKey, Commit, Abort}
 use Rattle.order_machine.specs.declared.observation.Observation.{Observation}
 use Rattle.order_machine.specs.declared.observation.Observation.TheVariants as says
 use Rattle.events.specs.declared.answer.Reply.{Reply}
@@ -46,6 +46,7 @@ use Rattle.world.proofs.Later.{Continues}
 use Rattle.world.proofs.Logged.{fence_lengthened, latest_low}
 use Rattle.world.proofs.Sound.{BeginsWith}
 use Rattle.replica.proofs.Lengthened.{commits_after, shows_after, steps_to, logged_few}
+use Rattle.events.specs.declared.answer.Answer.TheVariants as answers
 
 -- ---- the commit of what goes on
 
@@ -160,23 +161,19 @@ has_reply r call in_one None e = absurd (by_role (is_active r.role) e)
     by_lock grants state t c i (Some held_by) n = none-some _ (sym n)
     by_lock grants state t Begin i None n = i
     by_lock grants state t (Make u name kind) i None n = none-some _ (sym n)
-    by_lock grants state t (Get u name key) i None n = none-some _ (sym n)
-    by_lock grants state t (GetForUpdate u name key) i None n = none-some _ (sym n)
-    by_lock grants state t (Set u name key value) i None n = none-some _ (sym n)
-    by_lock grants state t (Add u name key value) i None n = none-some _ (sym n)
-    by_lock grants state t (Delete u name key) i None n = none-some _ (sym n)
+    by_lock grants state t (OnKey u name key asked) i None n = none-some _ (sym n)
     by_lock grants state t (Commit u) i None n = i
     by_lock grants state t (Abort u) i None n = i
 
-    by_going : (t : TxnId) (o : Option Going) → option_map_or (λ going. live_reply r.front.grants (folded r.contents going.ops) t call) o (Some (plain (says.Ended t))) ≡ None → ⊥
+    by_going : (t : TxnId) (o : Option Going) → option_map_or (λ going. live_reply r.front.grants (folded r.contents going.ops) t call) o (Some (plain (answers.Ended t))) ≡ None → ⊥
     by_going t None n = none-some _ (sym n)
     by_going t (Some g) n = by_lock r.front.grants (folded r.contents g.ops) t call in_one (against r.front.grants t (locks_at (folded r.contents g.ops) call)) n
 
-    by_name : (o : Option TxnId) → option_map_or (λ t. option_map_or (λ going. live_reply r.front.grants (folded r.contents going.ops) t call) (going_of r.front t) (Some (plain (says.Ended t)))) o (Some (plain (says.Txn (txn_at r.front (r.front.begins + 1))))) ≡ None → ⊥
+    by_name : (o : Option TxnId) → option_map_or (λ t. option_map_or (λ going. live_reply r.front.grants (folded r.contents going.ops) t call) (going_of r.front t) (Some (plain (answers.Ended t)))) o (Some (plain (answers.Txn (txn_at r.front (r.front.begins + 1))))) ≡ None → ⊥
     by_name None n = none-some _ (sym n)
     by_name (Some t) n = by_going t (going_of r.front t) n
 
-    by_role : (b : Bool) → cond b (told r.front r.contents call) (Some (plain (says.NotActive r.id))) ≡ None → ⊥
+    by_role : (b : Bool) → cond b (told r.front r.contents call) (Some (plain (answers.NotActive r.id))) ≡ None → ⊥
     by_role true n = by_name (txn_named call) n
     by_role false n = none-some _ (sym n)
 
@@ -196,11 +193,7 @@ named_done call t named going last number r r' before now lines m epoch active l
 primary_done : (last number : ℕ) (r r' : Open) (call : Call) (before now : Areas → Type 0) (lines : List Observation) (m : Machine) (epoch : Epoch) (active : Bool) → last < number → r.role ≡ Primary epoch active → Serving last r before m → IsDone r r' call before now lines → IsServed number r' now call lines m
 primary_done last number r r' Begin before now lines m epoch active later role s d = begin_done last number r r' before now lines m epoch active later role s d
 primary_done last number r r' (Make t name kind) before now lines m epoch active later role s d = let call : Call = Make t name kind in named_done call t refl (in_collection call t tt refl) last number r r' before now lines m epoch active later role s d (going_of r.front t) refl
-primary_done last number r r' (Get t name key) before now lines m epoch active later role s d = let call : Call = Get t name key in named_done call t refl (in_collection call t tt refl) last number r r' before now lines m epoch active later role s d (going_of r.front t) refl
-primary_done last number r r' (GetForUpdate t name key) before now lines m epoch active later role s d = let call : Call = GetForUpdate t name key in named_done call t refl (in_collection call t tt refl) last number r r' before now lines m epoch active later role s d (going_of r.front t) refl
-primary_done last number r r' (Set t name key value) before now lines m epoch active later role s d = let call : Call = Set t name key value in named_done call t refl (in_collection call t tt refl) last number r r' before now lines m epoch active later role s d (going_of r.front t) refl
-primary_done last number r r' (Add t name key value) before now lines m epoch active later role s d = let call : Call = Add t name key value in named_done call t refl (in_collection call t tt refl) last number r r' before now lines m epoch active later role s d (going_of r.front t) refl
-primary_done last number r r' (Delete t name key) before now lines m epoch active later role s d = let call : Call = Delete t name key in named_done call t refl (in_collection call t tt refl) last number r r' before now lines m epoch active later role s d (going_of r.front t) refl
+primary_done last number r r' (OnKey t name key asked) before now lines m epoch active later role s d = let call : Call = Get t name key in named_done call t refl (in_collection call t tt refl) last number r r' before now lines m epoch active later role s d (going_of r.front t) refl
 primary_done last number r r' (Commit t) before now lines m epoch active later role s d = named_done (Commit t) t refl (λ l n a b g. commit_done l n a b t g) last number r r' before now lines m epoch active later role s d (going_of r.front t) refl
 primary_done last number r r' (Abort t) before now lines m epoch active later role s d = named_done (Abort t) t refl (λ l n a b g. aborted_done l n a b t g) last number r r' before now lines m epoch active later role s d (going_of r.front t) refl
 

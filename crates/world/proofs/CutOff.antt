@@ -15,7 +15,7 @@ use Rattle.log_store.specs.Durable.{durable, StandForOneOf}
 use Rattle.log_store.specs.Log.{commits_in}
 use Rattle.events.specs.declared.event.Event.TheVariants.{Client}
 use Rattle.events.specs.declared.call.Call.{Call}
-use Rattle.events.specs.declared.call.Call.TheVariants.{Begin, Make, Get, GetForUpdate, Set, Add, Delete, Commit, Abort}
+use Rattle.events.specs.declared.call.Call.TheVariants.{Begin, Make, OnKey, Commit, Abort}
 use Rattle.order_machine.specs.declared.observation.Observation.{Observation}
 use Rattle.order_machine.specs.declared.observation.Observation.TheVariants as says
 use Rattle.events.specs.declared.answer.Reply.{Reply}
@@ -58,6 +58,7 @@ use Rattle.world.proofs.Sound.{BeginsWith, begins_still, sound_whole}
 use Rattle.world.proofs.FaultLines.{call_faults}
 use Rattle.world.proofs.Told.{machine_of, known_of, answer_told}
 use Rattle.replica.proofs.Lengthened.{commits_after, shows_after, steps_to, commits_prefix, logged_few}
+use Rattle.events.specs.declared.answer.Answer.TheVariants as answers
 
 -- ---- logs
 
@@ -88,11 +89,7 @@ once_sound last number r call before m txns later may s follow =
 answered_role : (r : Open) (n : ℕ) (call : Call) → (answered n call r).role ≡ r.role
 answered_role r n Begin = lengthened_role n r
 answered_role r n (Make t name kind) = lengthened_role n r
-answered_role r n (Get t name key) = lengthened_role n r
-answered_role r n (GetForUpdate t name key) = lengthened_role n r
-answered_role r n (Set t name key value) = lengthened_role n r
-answered_role r n (Add t name key value) = lengthened_role n r
-answered_role r n (Delete t name key) = lengthened_role n r
+answered_role r n (OnKey t name key asked) = lengthened_role n r
 answered_role r n (Commit t) = by (going_of r.front t)
   where
     by : (o : Option Going) → (option_map_or (λ g. committed_open n t g r) o r).role ≡ r.role
@@ -110,8 +107,8 @@ role_kept r call = by (is_active r.role)
 due_was : (r : Open) (call : Call) → is_due r (steps.Client call) ≡ true → (b : Bool) → is_active r.role ≡ b → is_active r.role ≡ true
 due_was r call due true e = e
 due_was r call due false e =
-    let says_so : reply r call ≡ Some (plain (says.NotActive r.id)) = cond-false (is_active r.role) (told r.front r.contents call) (Some (plain (says.NotActive r.id))) e in
-    absurd (false≢true (sym (told_is r call (plain (says.NotActive r.id)) says_so).not_due ∙ due))
+    let says_so : reply r call ≡ Some (plain (answers.NotActive r.id)) = cond-false (is_active r.role) (told r.front r.contents call) (Some (plain (answers.NotActive r.id))) e in
+    absurd (false≢true (sym (told_is r call (plain (answers.NotActive r.id)) says_so).not_due ∙ due))
 
 -- the step behind which a Barrier is due leaves an active primary
 pub due_active : (r : Open) (call : Call) → is_due r (steps.Client call) ≡ true → is_active (stepped r (steps.Client call)).role ≡ true
@@ -275,7 +272,7 @@ abort_cut t last number r g before now lines m later may on s is cut = by (g.las
     n : Machine
     n = machine_of s.runs
 
-    says_so : reply r (Abort t) ≡ Some (plain says.Done)
+    says_so : reply r (Abort t) ≡ Some (plain answers.Done)
     says_so = active_reply r (Abort t) on ∙ going_told r.front r.contents (Abort t) t g refl is
 
     ends : (length g.ops == 0) ≡ false → ends_logged (asking n 0 (Abort t)) (Abort t) ≡ true
@@ -288,30 +285,26 @@ abort_cut t last number r g before now lines m later may on s is cut = by (g.las
         ∙ (ap (λ ops. not (length ops == 0)) k.ops ∙ ap (λ b. not b) some))
 
     by : (b : Bool) → (g.last.0 == 0) ≡ b → IsCutOff r (steps.Client (Abort t)) s.log [] lines now → IsFaulted number now (Abort t) (lines ++ says.Fault 0 ∷ []) m
-    by true empty cut = absurd (silent_cut r (Abort t) (plain says.Done) s.log lines now says_so (abort_logs r t g on is ∙ ap (λ b. cond b [] (recs.End t g.last false ∷ [])) empty) cut)
+    by true empty cut = absurd (silent_cut r (Abort t) (plain answers.Done) s.log lines now says_so (abort_logs r t g on is ∙ ap (λ b. cond b [] (recs.End t g.last false ∷ [])) empty) cut)
     by false some (inl first) =
-        let answers : answer n 0 (Abort t) ≡ Some (plain says.Done) = answer_told r.front r.shown r.contents m s.runs (Abort t) ∙ (sym (active_reply r (Abort t) on) ∙ says_so) in
+        let answers : answer n 0 (Abort t) ≡ Some (plain answers.Done) = answer_told r.front r.shown r.contents m s.runs (Abort t) ∙ (sym (active_reply r (Abort t) on) ∙ says_so) in
         let logging : logs (asking n 0 (Abort t)) (Abort t) (answer n 0 (Abort t)) ≡ true = ap (logs (asking n 0 (Abort t)) (Abort t)) answers ∙ ends (sym (s.recorded t g is) ∙ some) in
         first_cut last number r (Abort t) before now lines m later may s logging tt first.0 first.2
-    by false some (inr second) = absurd (false≢true (sym (told_is r (Abort t) (plain says.Done) says_so).not_due ∙ second.0))
+    by false some (inr second) = absurd (false≢true (sym (told_is r (Abort t) (plain answers.Done) says_so).not_due ∙ second.0))
 
 named_cut : (call : Call) (t : TxnId) → txn_named call ≡ Some t → GoingCut call t → (last number : ℕ) (r : Open) (before now : Areas → Type 0) (lines : List Observation) (m : Machine) → last < number → MayStep r (steps.Client call) → is_active r.role ≡ true → (s : Serving last r before m) → IsCutOff r (steps.Client call) s.log [] lines now → (o : Option Going) → going_of r.front t ≡ o → IsFaulted number now call (lines ++ says.Fault 0 ∷ []) m
 named_cut call t named going last number r before now lines m later may on s cut (Some g) is = going last number r g before now lines m later may on s is cut
-named_cut call t named going last number r before now lines m later may on s cut None none = absurd (silent_cut r call (plain (says.Ended t)) s.log lines now (active_reply r call on ∙ told_ended r.front r.contents call t named none) (none_logs r call t on named none) cut)
+named_cut call t named going last number r before now lines m later may on s cut None none = absurd (silent_cut r call (plain (answers.Ended t)) s.log lines now (active_reply r call on ∙ told_ended r.front r.contents call t named none) (none_logs r call t on named none) cut)
 
 primary_cut : (last number : ℕ) (r : Open) (call : Call) (before now : Areas → Type 0) (lines : List Observation) (m : Machine) → last < number → MayStep r (steps.Client call) → is_active r.role ≡ true → (s : Serving last r before m) → IsCutOff r (steps.Client call) s.log [] lines now → IsFaulted number now call (lines ++ says.Fault 0 ∷ []) m
-primary_cut last number r Begin before now lines m later may on s cut = absurd (silent_cut r Begin (plain (says.Txn (next r.front))) s.log lines now (active_reply r Begin on) refl cut)
+primary_cut last number r Begin before now lines m later may on s cut = absurd (silent_cut r Begin (plain (answers.Txn (next r.front))) s.log lines now (active_reply r Begin on) refl cut)
 primary_cut last number r (Make t name kind) before now lines m later may on s cut = let call : Call = Make t name kind in named_cut call t refl (collection_cut call t tt refl) last number r before now lines m later may on s cut (going_of r.front t) refl
-primary_cut last number r (Get t name key) before now lines m later may on s cut = let call : Call = Get t name key in named_cut call t refl (collection_cut call t tt refl) last number r before now lines m later may on s cut (going_of r.front t) refl
-primary_cut last number r (GetForUpdate t name key) before now lines m later may on s cut = let call : Call = GetForUpdate t name key in named_cut call t refl (collection_cut call t tt refl) last number r before now lines m later may on s cut (going_of r.front t) refl
-primary_cut last number r (Set t name key value) before now lines m later may on s cut = let call : Call = Set t name key value in named_cut call t refl (collection_cut call t tt refl) last number r before now lines m later may on s cut (going_of r.front t) refl
-primary_cut last number r (Add t name key value) before now lines m later may on s cut = let call : Call = Add t name key value in named_cut call t refl (collection_cut call t tt refl) last number r before now lines m later may on s cut (going_of r.front t) refl
-primary_cut last number r (Delete t name key) before now lines m later may on s cut = let call : Call = Delete t name key in named_cut call t refl (collection_cut call t tt refl) last number r before now lines m later may on s cut (going_of r.front t) refl
+primary_cut last number r (OnKey t name key asked) before now lines m later may on s cut = let call : Call = Get t name key in named_cut call t refl (collection_cut call t tt refl) last number r before now lines m later may on s cut (going_of r.front t) refl
 primary_cut last number r (Commit t) before now lines m later may on s cut = named_cut (Commit t) t refl (commit_cut t) last number r before now lines m later may on s cut (going_of r.front t) refl
 primary_cut last number r (Abort t) before now lines m later may on s cut = named_cut (Abort t) t refl (abort_cut t) last number r before now lines m later may on s cut (going_of r.front t) refl
 
 role_cut : (last number : ℕ) (r : Open) (call : Call) (before now : Areas → Type 0) (lines : List Observation) (m : Machine) → last < number → MayStep r (steps.Client call) → (role : Role) → r.role ≡ role → AsRole role last r before m → ((log : Log) → IsOpen r log before → IsCutOff r (steps.Client call) log [] lines now) → IsFaulted number now call (lines ++ says.Fault 0 ∷ []) m
-role_cut last number r call before now lines m later may Other e s cut = absurd (silent_cut r call (plain (says.NotActive r.id)) s.log lines now (rests_reply r call e) (rests_logs r call (ap is_active e)) (cut s.log s.is_open))
+role_cut last number r call before now lines m later may Other e s cut = absurd (silent_cut r call (plain (answers.NotActive r.id)) s.log lines now (rests_reply r call e) (rests_logs r call (ap is_active e)) (cut s.log s.is_open))
 role_cut last number r call before now lines m later may (Primary epoch active) e s cut = primary_cut last number r call before now lines m later may (primary_active r s.log epoch active e s.is_open.agrees) s (cut s.log s.is_open)
 
 -- A call that a fault cut off is told so, and the replica is closed.

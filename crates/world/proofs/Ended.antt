@@ -11,7 +11,7 @@ use Rattle.rc_base.proofs.SameIds.{is_txn-true}
 use Rattle.coll_model.specs.Effect.{State}
 use Rattle.events.specs.declared.event.Event.TheVariants.{Client}
 use Rattle.events.specs.declared.call.Call.{Call}
-use Rattle.events.specs.declared.call.Call.TheVariants.{Begin, Make, Get, GetForUpdate, Set, Add, Delete, Commit, Abort}
+use Rattle.events.specs.declared.call.Call.TheVariants.{Begin, Make, OnKey, Commit, Abort}
 use Rattle.order_machine.specs.declared.observation.Observation.TheVariants as says
 use Rattle.order_machine.specs.Machine.{Machine, Txn, put_txn}
 use Rattle.events.specs.Calls.{CallRecord, txn_named}
@@ -26,10 +26,11 @@ use Rattle.world.proofs.Booted.{running_unrefused}
 use Rattle.world.proofs.Changed.{with_call}
 use Rattle.world.proofs.Quiet.{holds_behind, settled}
 use Rattle.world.proofs.Told.{machine_of, not_live, answer_told}
+use Rattle.events.specs.declared.answer.Answer.TheVariants as answers
 
 -- the call with its answer
 abbrev pub ended_call : Call → TxnId → CallRecord
-ended_call call t = record { call = call; answer = says.Ended t; op = None }
+ended_call call t = record { call = call; answer = answers.Ended t; op = None }
 
 -- a known transaction with one call more, which doesn't go on
 each_noted : (front : Fronted) (shown : ℕ) (contents : State) (m : Machine) (h : Runs front shown contents m) (t : TxnId) (x : Txn) (c : CallRecord) → lookup (is_txn t) h.txns ≡ Some x → going_of front t ≡ None →
@@ -90,11 +91,7 @@ by_none f x o none = ap (λ o. option_map_or f o x) none
 pub ended_asking : (m : Machine) (call : Call) (t : TxnId) → txn_named call ≡ Some t → going_at m 0 t ≡ None → asking m 0 call ≡ m
 ended_asking m Begin t named gone = refl
 ended_asking m (Make u name kind) t named gone = by_none _ m (going_at m 0 u) (ap (going_at m 0) (same_Some u t named) ∙ gone)
-ended_asking m (Get u name key) t named gone = by_none _ m (going_at m 0 u) (ap (going_at m 0) (same_Some u t named) ∙ gone)
-ended_asking m (GetForUpdate u name key) t named gone = by_none _ m (going_at m 0 u) (ap (going_at m 0) (same_Some u t named) ∙ gone)
-ended_asking m (Set u name key value) t named gone = by_none _ m (going_at m 0 u) (ap (going_at m 0) (same_Some u t named) ∙ gone)
-ended_asking m (Add u name key value) t named gone = by_none _ m (going_at m 0 u) (ap (going_at m 0) (same_Some u t named) ∙ gone)
-ended_asking m (Delete u name key) t named gone = by_none _ m (going_at m 0 u) (ap (going_at m 0) (same_Some u t named) ∙ gone)
+ended_asking m (OnKey u name key asked) t named gone = by_none _ m (going_at m 0 u) (ap (going_at m 0) (same_Some u t named) ∙ gone)
 ended_asking m (Commit u) t named gone = by_none _ m (going_at m 0 u) (ap (going_at m 0) (same_Some u t named) ∙ gone)
 ended_asking m (Abort u) t named gone = by_none _ m (going_at m 0 u) (ap (going_at m 0) (same_Some u t named) ∙ gone)
 
@@ -106,5 +103,5 @@ ended_serves front shown contents m call t named h none =
     let R : Option TxnId → Type 0 = λ o. RunsWith h.entries h.course front shown contents (option_map_or (λ u. noted n u (ended_call call t)) o n) in
     let then = subst R (sym named) (noted_runs front shown contents m t (ended_call call t) h none (lookup (is_txn t) h.txns) refl) in
     let P : Machine → Type 0 = λ at. IsWhole at (Client 0 call) (says.Ended t ∷ []) × RunsWith h.entries h.course front shown contents (moved at (Client 0 call) (says.Ended t ∷ [])) in
-    let says_so : told front contents call ≡ Some (plain (says.Ended t)) = told_ended front contents call t named none in
-    subst P (sym h.is) (answer_serves n n 0 call (says.Ended t) None (RunsWith h.entries h.course front shown contents) (running_unrefused front shown contents m h call) (ended_asking n call t named gone) (answer_told front shown contents m h call ∙ says_so) refl (holds_behind _ _ _ _ then.0) then)
+    let says_so : told front contents call ≡ Some (plain (answers.Ended t)) = told_ended front contents call t named none in
+    subst P (sym h.is) (answer_serves n n 0 call (answers.Ended t) None (RunsWith h.entries h.course front shown contents) (running_unrefused front shown contents m h call) (ended_asking n call t named gone) (answer_told front shown contents m h call ∙ says_so) refl (holds_behind _ _ _ _ then.0) then)

@@ -8,7 +8,7 @@ use Rattle.rc_base.specs.declared.ids.TxnId.{TxnId}
 use Rattle.events.specs.declared.event.Event.{Event}
 use Rattle.events.specs.declared.event.Event.TheVariants.{Boot, Client, Arm, Crash, Reboot, Inspect, Survey, Appoint, Activate}
 use Rattle.events.specs.declared.call.Call.{Call}
-use Rattle.events.specs.declared.call.Call.TheVariants.{Begin, Make, Get, GetForUpdate, Set, Add, Delete, Commit, Abort}
+use Rattle.events.specs.declared.call.Call.TheVariants.{Begin, Make, OnKey, Commit, Abort}
 use Rattle.order_machine.specs.declared.observation.Observation.{Observation}
 use Rattle.order_machine.specs.declared.observation.Observation.TheVariants as says
 use Rattle.order_machine.specs.Order.{Entry}
@@ -50,11 +50,7 @@ asking_stands entries acknowledged shown begins grants txns course call = by cal
     by : (c : Call) → Asked entries acknowledged shown begins course (asking m 0 c)
     by Begin = same
     by (Make t name kind) = locks t (Make t name kind)
-    by (Get t name key) = locks t (Get t name key)
-    by (GetForUpdate t name key) = locks t (GetForUpdate t name key)
-    by (Set t name key value) = locks t (Set t name key value)
-    by (Add t name key value) = locks t (Add t name key value)
-    by (Delete t name key) = locks t (Delete t name key)
+    by (OnKey t name key asked) = locks t (OnKey t name key asked)
     by (Commit t) = by_going entries acknowledged shown begins course (λ x. put_txn m t (record x { live = false; asked = true })) m (λ x. ((t, record x { live = false; asked = true }) ∷ txns, (grants, refl))) same (going_at m 0 t)
     by (Abort t) = by_going entries acknowledged shown begins course (λ x. put_txn (put_grants m 0 (released grants t)) t (record x { live = false })) m (λ x. ((t, record x { live = false }) ∷ txns, (released grants t, refl))) same (going_at m 0 t)
 

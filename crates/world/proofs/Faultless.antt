@@ -25,7 +25,11 @@ use Rattle.replica.specs.Step.{reply, is_active, outcome, quiet, shown_commits, 
 use Rattle.world.specs.declared.error.WorldError.{WorldError}
 use Rattle.world.specs.Fleet.{faults_in, fault_lines, is_fault_of, RoseBy, TellsZero}
 use Rattle.world.specs.Steps.{told_by, order_line, cons_if, most_shown, IsCutOff}
+use Rattle.order_machine.specs.AnswerLines.{line_of_answer}
+use Rattle.std.specs.Prelude.{option_map}
 use Rattle.world.proofs.Answer.{is_answer, live_reply_is}
+use Rattle.events.specs.declared.answer.Answer.TheVariants as answers
+use Rattle.events.specs.declared.answer.Answer.{Answer}
 
 -- ---- lists of lines
 
@@ -37,57 +41,42 @@ pub faults_append : (r : ℕ) (xs ys : List Observation) → faults_in r (xs ++ 
 faults_append r [] ys = omega arith
 faults_append r (o ∷ os) ys = one_more (is_fault_of r o) (faults_in r (os ++ ys)) (faults_in r os) (faults_in r ys) (faults_append r os ys)
 
-answer_faultless : (r : ℕ) (o : Observation) → is_answer o ≡ true → faults_in r (o ∷ []) ≡ 0
-answer_faultless r (says.Up q) is = absurd (false≢true is)
-answer_faultless r (says.Order t ops) is = refl
-answer_faultless r (says.View q n) is = refl
-answer_faultless r (says.Active q) is = refl
-answer_faultless r (says.Committed t) is = refl
-answer_faultless r (says.Txn t) is = refl
-answer_faultless r says.Done is = refl
-answer_faultless r (says.Refused part) is = refl
-answer_faultless r (says.Down q) is = refl
-answer_faultless r (says.NotActive q) is = refl
-answer_faultless r (says.Ended t) is = refl
-answer_faultless r (says.Locked t) is = refl
-answer_faultless r says.True is = refl
-answer_faultless r says.False is = refl
-answer_faultless r (says.Value value) is = refl
-answer_faultless r says.Missing is = refl
-answer_faultless r says.Absent is = refl
-answer_faultless r says.WrongKind is = refl
-answer_faultless r (says.Fault q) is = absurd (false≢true is)
-answer_faultless r says.IgnoredUp is = refl
-answer_faultless r (says.IgnoredOldEpoch f e) is = refl
-answer_faultless r (says.Progress q e l) is = refl
-answer_faultless r (says.State q n) is = refl
-answer_faultless r (says.Rows words) is = refl
+-- the line of an answer tells no fault, and shows nothing
+pub answer_faultless : (r : ℕ) (told : Answer) → faults_in r (line_of_answer told ∷ []) ≡ 0
+answer_faultless r (answers.Txn t) = refl
+answer_faultless r answers.Done = refl
+answer_faultless r answers.True = refl
+answer_faultless r answers.False = refl
+answer_faultless r (answers.Value value) = refl
+answer_faultless r answers.Missing = refl
+answer_faultless r answers.Absent = refl
+answer_faultless r answers.WrongKind = refl
+answer_faultless r (answers.Ended t) = refl
+answer_faultless r (answers.Locked t) = refl
+answer_faultless r (answers.NotActive q) = refl
+answer_faultless r (answers.Down q) = refl
+answer_faultless r (answers.Refused part) = refl
+answer_faultless r (answers.Progress q e last) = refl
+answer_faultless r answers.IgnoredUp = refl
+answer_faultless r (answers.IgnoredOldEpoch fence e) = refl
 
-pub answer_shows : (o : Observation) → is_answer o ≡ true → most_shown (o ∷ []) ≡ 0
-answer_shows (says.Up q) is = absurd (false≢true is)
-answer_shows (says.Order t ops) is = refl
-answer_shows (says.View q n) is = absurd (false≢true is)
-answer_shows (says.Active q) is = refl
-answer_shows (says.Committed t) is = refl
-answer_shows (says.Txn t) is = refl
-answer_shows says.Done is = refl
-answer_shows (says.Refused part) is = refl
-answer_shows (says.Down q) is = refl
-answer_shows (says.NotActive q) is = refl
-answer_shows (says.Ended t) is = refl
-answer_shows (says.Locked t) is = refl
-answer_shows says.True is = refl
-answer_shows says.False is = refl
-answer_shows (says.Value value) is = refl
-answer_shows says.Missing is = refl
-answer_shows says.Absent is = refl
-answer_shows says.WrongKind is = refl
-answer_shows (says.Fault q) is = refl
-answer_shows says.IgnoredUp is = refl
-answer_shows (says.IgnoredOldEpoch f e) is = refl
-answer_shows (says.Progress q e l) is = refl
-answer_shows (says.State q n) is = refl
-answer_shows (says.Rows words) is = refl
+pub answer_shows : (told : Answer) → most_shown (line_of_answer told ∷ []) ≡ 0
+answer_shows (answers.Txn t) = refl
+answer_shows answers.Done = refl
+answer_shows answers.True = refl
+answer_shows answers.False = refl
+answer_shows (answers.Value value) = refl
+answer_shows answers.Missing = refl
+answer_shows answers.Absent = refl
+answer_shows answers.WrongKind = refl
+answer_shows (answers.Ended t) = refl
+answer_shows (answers.Locked t) = refl
+answer_shows (answers.NotActive q) = refl
+answer_shows (answers.Down q) = refl
+answer_shows (answers.Refused part) = refl
+answer_shows (answers.Progress q e last) = refl
+answer_shows answers.IgnoredUp = refl
+answer_shows (answers.IgnoredOldEpoch fence e) = refl
 
 orders_faultless : (r : ℕ) (cs : List Committed) → faults_in r (map order_line cs) ≡ 0
 orders_faultless r [] = refl
@@ -111,21 +100,21 @@ active_faultless r id false = refl
 pub reply_answers : (r : Open) (call : Call) (given : Reply) → reply r call ≡ Some given → is_answer given.answer ≡ true
 reply_answers r call given e = by_role (is_active r.role) e
   where
-    by_going : (t : TxnId) (o : Option Going) → option_map_or (λ going. live_reply r.front.grants (folded r.contents going.ops) t call) o (Some (plain (says.Ended t))) ≡ Some given → is_answer given.answer ≡ true
-    by_going t None a = subst (λ x. is_answer x.answer ≡ true) (same_Some (plain (says.Ended t)) given a) refl
+    by_going : (t : TxnId) (o : Option Going) → option_map_or (λ going. live_reply r.front.grants (folded r.contents going.ops) t call) o (Some (plain (answers.Ended t))) ≡ Some given → is_answer given.answer ≡ true
+    by_going t None a = subst (λ x. is_answer x.answer ≡ true) (same_Some (plain (answers.Ended t)) given a) refl
     by_going t (Some g) a = live_reply_is r.front.grants (folded r.contents g.ops) t call given a
 
-    by_name : (o : Option TxnId) → option_map_or (λ t. option_map_or (λ going. live_reply r.front.grants (folded r.contents going.ops) t call) (going_of r.front t) (Some (plain (says.Ended t)))) o (Some (plain (says.Txn (txn_at r.front (r.front.begins + 1))))) ≡ Some given → is_answer given.answer ≡ true
-    by_name None a = subst (λ x. is_answer x.answer ≡ true) (same_Some (plain (says.Txn (txn_at r.front (r.front.begins + 1)))) given a) refl
+    by_name : (o : Option TxnId) → option_map_or (λ t. option_map_or (λ going. live_reply r.front.grants (folded r.contents going.ops) t call) (going_of r.front t) (Some (plain (answers.Ended t)))) o (Some (plain (answers.Txn (txn_at r.front (r.front.begins + 1))))) ≡ Some given → is_answer given.answer ≡ true
+    by_name None a = subst (λ x. is_answer x.answer ≡ true) (same_Some (plain (answers.Txn (txn_at r.front (r.front.begins + 1)))) given a) refl
     by_name (Some t) a = by_going t (going_of r.front t) a
 
-    by_role : (b : Bool) → cond b (front.told r.front r.contents call) (Some (plain (says.NotActive r.id))) ≡ Some given → is_answer given.answer ≡ true
+    by_role : (b : Bool) → cond b (front.told r.front r.contents call) (Some (plain (answers.NotActive r.id))) ≡ Some given → is_answer given.answer ≡ true
     by_role true a = by_name (txn_named call) a
-    by_role false a = subst (λ x. is_answer x.answer ≡ true) (same_Some (plain (says.NotActive r.id)) given a) refl
+    by_role false a = subst (λ x. is_answer x.answer ≡ true) (same_Some (plain (answers.NotActive r.id)) given a) refl
 
-answered_part : (q : ℕ) (o : Option Observation) → ((x : Observation) → o ≡ Some x → is_answer x ≡ true) → faults_in q (cons_option o []) ≡ 0
-answered_part q None h = refl
-answered_part q (Some x) h = answer_faultless q x (h x refl)
+answered_part : (q : ℕ) (o : Option Answer) → faults_in q (cons_option (option_map line_of_answer o) []) ≡ 0
+answered_part q None = refl
+answered_part q (Some told) = answer_faultless q told
 
 none_append : (q : ℕ) (xs ys : List Observation) → faults_in q xs ≡ 0 → faults_in q ys ≡ 0 → faults_in q (xs ++ ys) ≡ 0
 none_append q xs ys a b = let e = faults_append q xs ys in omega (arith, e, a, b)
@@ -137,17 +126,13 @@ told_faultless q r call =
     let z2 = view_faultless q r.id out.shown (nat_lt r.shown out.shown) in
     let z3 = active_faultless q r.id (out.active && not (is_active r.role)) in
     let z4 = committed_faultless q out.acknowledged in
-    let z5 = answered_part q out.answer (answers (reply r call) refl) in
+    let z5 = answered_part q out.answer in
     let view = cons_if (nat_lt r.shown out.shown) (says.View r.id out.shown) in
     let active = cons_if (out.active && not (is_active r.role)) (says.Active r.id) in
     let acked = map says.Committed out.acknowledged in
-    let last = cons_option out.answer [] in
+    let last = cons_option (option_map line_of_answer out.answer) [] in
     let orders = map order_line out.commits in
     none_append q (((orders ++ view) ++ active) ++ acked) last (none_append q ((orders ++ view) ++ active) acked (none_append q (orders ++ view) active (none_append q orders view z1 z2) z3) z4) z5
-  where
-    answers : (o : Option Reply) → reply r call ≡ o → (x : Observation) → (option_map_or (λ known. quiet r (Some known.answer)) o (shown_commits r (committed_by r (steps.Client call)))).answer ≡ Some x → is_answer x ≡ true
-    answers None e x h = absurd (none-some x h)
-    answers (Some given) e x h = subst (λ y. is_answer y ≡ true) (same_Some given.answer x h) (reply_answers r call given e)
 
 -- ---- a count that rose
 

@@ -1,6 +1,7 @@
 pub mod Aborted
 pub mod Activating
 pub mod Alone
+pub mod Kinds
 pub mod Answer
 pub mod Answered
 pub mod Appointing

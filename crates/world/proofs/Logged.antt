@@ -6,7 +6,7 @@ use Rattle.rc_base.specs.Ids.{epoch_lt, epoch_le}
 use Rattle.log_store.specs.declared.kept.Kept.{Kept as Log}
 use Rattle.log_store.specs.Epochs.{later}
 use Rattle.events.specs.declared.call.Call.{Call}
-use Rattle.events.specs.declared.call.Call.TheVariants.{Begin, Make, Get, GetForUpdate, Set, Add, Delete, Commit, Abort}
+use Rattle.events.specs.declared.call.Call.TheVariants.{Begin, Make, OnKey, Commit, Abort}
 use Rattle.replica.specs.Open.{Open, AgreesWith}
 use Rattle.replica.specs.Step.{lengthened, answered, called, logged_by, is_active}
 use Rattle.txn_front.specs.Front.{Going, going_of}
@@ -29,11 +29,7 @@ fence_lengthened course (suc n) r fence low = fence_later course r.fence r.epoch
 fence_answered : (course : Course) (r : Open) (n : ℕ) (call : Call) → IsFence course r.fence → epoch_le r.epoch course.latest ≡ true → IsFence course (answered n call r).fence
 fence_answered course r n Begin fence low = fence_lengthened course n r fence low
 fence_answered course r n (Make t name kind) fence low = fence_lengthened course n r fence low
-fence_answered course r n (Get t name key) fence low = fence_lengthened course n r fence low
-fence_answered course r n (GetForUpdate t name key) fence low = fence_lengthened course n r fence low
-fence_answered course r n (Set t name key value) fence low = fence_lengthened course n r fence low
-fence_answered course r n (Add t name key value) fence low = fence_lengthened course n r fence low
-fence_answered course r n (Delete t name key) fence low = fence_lengthened course n r fence low
+fence_answered course r n (OnKey t name key asked) fence low = fence_lengthened course n r fence low
 fence_answered course r n (Commit t) fence low = by (going_of r.front t)
   where
     by : (o : Option Going) → IsFence course (option_map_or (λ g. committed_open n t g r) o r).fence
@@ -51,11 +47,7 @@ fence_called course r call fence low = by (is_active r.role)
 epoch_answered : (r : Open) (n : ℕ) (call : Call) → (answered n call r).epoch ≡ r.epoch
 epoch_answered r n Begin = lengthened_epoch n r
 epoch_answered r n (Make t name kind) = lengthened_epoch n r
-epoch_answered r n (Get t name key) = lengthened_epoch n r
-epoch_answered r n (GetForUpdate t name key) = lengthened_epoch n r
-epoch_answered r n (Set t name key value) = lengthened_epoch n r
-epoch_answered r n (Add t name key value) = lengthened_epoch n r
-epoch_answered r n (Delete t name key) = lengthened_epoch n r
+epoch_answered r n (OnKey t name key asked) = lengthened_epoch n r
 epoch_answered r n (Commit t) = by (going_of r.front t)
   where
     by : (o : Option Going) → (option_map_or (λ g. committed_open n t g r) o r).epoch ≡ r.epoch

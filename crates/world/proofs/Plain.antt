@@ -19,6 +19,10 @@ use Rattle.replica.specs.Open.{Open}
 use Rattle.replica.specs.Step.{reply, is_active, quiet, outcome, logged_by, called, answered, going_in, committed_by, shown_commits, lengthened}
 use Rattle.txn_front.specs.Front.{Going, going_of, ended}
 use Rattle.world.specs.Steps.{told, told_by, is_due, finished, log_once, log_twice, log_behind}
+use Rattle.events.specs.declared.answer.Answer.TheVariants as answers
+use Rattle.events.specs.declared.answer.Answer.{Answer}
+use Rattle.order_machine.specs.AnswerLines.{line_of_answer}
+use Rattle.std.specs.Prelude.{option_map}
 
 pub not_below : (n : ℕ) → nat_lt n n ≡ false
 not_below n = grind (arith, nat_tests)
@@ -28,12 +32,12 @@ not_newly true = refl
 not_newly false = refl
 
 -- the line of a step that shows nothing more
-pub quiet_lines : (r : Open) (o : Option Observation) → told r.id r.shown (is_active r.role) (quiet r o) ≡ cons_option o []
+pub quiet_lines : (r : Open) (o : Option Answer) → told r.id r.shown (is_active r.role) (quiet r o) ≡ cons_option (option_map line_of_answer o) []
 quiet_lines r o = rw (not_below r.shown, not_newly (is_active r.role)) refl
 
 -- What a call tells that is answered, what the replica keeps then, and its log.
 pub record IsTold (r : Open) (call : Call) (given : Reply) : Type 0 where
-  pub lines : told_by r (steps.Client call) ≡ given.answer ∷ []
+  pub lines : told_by r (steps.Client call) ≡ line_of_answer given.answer ∷ []
   pub keeps : finished r (steps.Client call) ≡ called r call
   pub log : (log : Log) → log_behind r (steps.Client call) log ≡ log_once r (steps.Client call) log
   pub not_due : is_due r (steps.Client call) ≡ false

@@ -7,7 +7,7 @@ use Rattle.std.proofs.lemmas.Bool.{and_parts}
 use Rattle.rc_base.specs.declared.ids.Epoch.{Epoch}
 use Rattle.rc_base.specs.Ids.{is_epoch, epoch_lt}
 use Rattle.rc_base.proofs.SameIds.{is_epoch_same}
-use Rattle.config_rule.specs.declared.answers.Answer.{Answer}
+use Rattle.config_rule.specs.declared.answers.SurveyAnswer.{SurveyAnswer}
 use Rattle.config_rule.specs.declared.appointments.Appointed.{Appointed}
 use Rattle.config_rule.specs.Rule.{is_above, are_members, has_quorum, has_answered_last, tells_most, is_latest, was_active, appointment_of, first_broken, broken_appointment, broken_activation, changed_at, made_active, made_current}
 use Rattle.order_machine.specs.Machine.{Machine, Appointment, as_appointed, known_of}
@@ -16,6 +16,7 @@ use Rattle.world.specs.Course.{IsNoted, AreNoted}
 use Rattle.world.specs.Kept.{Kept}
 use Rattle.world.specs.World.{IsRuled}
 use Rattle.replica.proofs.EpochOrder.{epoch_lt_not}
+use Rattle.events.specs.declared.answer.Answer.TheVariants as answers
 
 -- ---- the parts of the rule
 
@@ -35,7 +36,7 @@ above_known [] (x ∷ xs) h e = absurd h
 above_known (k ∷ known) [] h e = absurd h
 above_known (k ∷ known) (x ∷ xs) h e = ap₂ (λ (a b : Bool). a && b) (ap (λ (z : Epoch). epoch_lt z e) h.0.epoch) (above_known known xs h.1 e)
 
-abbrev parts_of : List ℕ → Epoch → ℕ → Bool → Bool → List ℕ → List Answer → Option ℕ
+abbrev parts_of : List ℕ → Epoch → ℕ → Bool → Bool → List ℕ → List SurveyAnswer → Option ℕ
 parts_of members e p up above current answers =
     first_broken 1 (above ∷ are_members members p ∷ has_quorum answers current e ∷ has_answered_last answers e p ∷ tells_most answers e p ∷ up ∷ [])
 
@@ -43,7 +44,7 @@ pub appointment_same : (k : Kept) (m : Machine) (r : IsRuled k m) (e : Epoch) (p
 appointment_same k m r e p members up =
     ap (λ (above : Bool). parts_of members e p up above r.known.current r.known.answers) (above_known r.known.appointed m.appointments r.appointed e)
     ∙ (ap (λ (current : List ℕ). parts_of members e p up (is_above (map as_appointed m.appointments) e) current r.known.answers) r.current
-    ∙ ap (λ (answers : List Answer). parts_of members e p up (is_above (map as_appointed m.appointments) e) m.config answers) r.answers)
+    ∙ ap (λ (answers : List SurveyAnswer). parts_of members e p up (is_above (map as_appointed m.appointments) e) m.config answers) r.answers)
 
 noted_counts : (known : List Appointed) (xs : List Appointment) → AreNoted known xs → length known ≡ length (map as_appointed xs)
 noted_counts [] [] h = refl

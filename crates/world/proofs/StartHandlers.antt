@@ -33,6 +33,7 @@ use Rattle.world.proofs.Later.{ruled_of, replica_of, booted_stands, up_role, max
 use Rattle.world.proofs.Ruled.{appointment_same}
 use Rattle.world.proofs.StartLogs.{start}
 use Rattle.world.proofs.StartWorld.{MayAppoint, active_all, faultless_all, start_does, start_fails_behind, start_fails_first, start_short, start_room}
+use Rattle.events.specs.declared.answer.Answer.TheVariants as answers
 
 -- ---- what it begins with
 
@@ -181,7 +182,7 @@ appointed_of before old e known new primary given members up a lawful same now n
     }
 
 -- the machine refuses what the rule finds broken
-pub refuses_part : (k : Kept) (images : Areas → Type 0) (e : Epoch) (known : Known) (primary : ℕ) (given : List ℕ) (up : Bool) (part : ℕ) → IsAsked k known primary given up → broken_appointment known e primary given up ≡ Some part → (m : Machine) → StandsFor k images m → refusal m (Appoint e 0 (0 ∷ [])) ≡ Some (says.Refused part)
+pub refuses_part : (k : Kept) (images : Areas → Type 0) (e : Epoch) (known : Known) (primary : ℕ) (given : List ℕ) (up : Bool) (part : ℕ) → IsAsked k known primary given up → broken_appointment known e primary given up ≡ Some part → (m : Machine) → StandsFor k images m → refusal m (Appoint e 0 (0 ∷ [])) ≡ Some (answers.Refused part)
 refuses_part k images e known primary given up part a broken m s =
     let booted : has_booted k ≡ true = ap is_some a.rule in
     let ruled = ruled_of k images m booted s in
@@ -191,5 +192,5 @@ refuses_part k images e known primary given up part a broken m s =
     ∙ (sym (appointment_same k m ruled e 0 (0 ∷ []) (is_some k.replica))
     ∙ (ap (λ (w : Known). broken_appointment w e 0 (0 ∷ []) (is_some k.replica)) same
     ∙ (sym (asked_same k known e primary given up a) ∙ broken))) in
-    ap (λ (b : Bool). cond b (option_map says.Refused (broken_appointment (known_of m) e 0 (0 ∷ []) (replica m 0).up)) (Some (says.Refused 9))) (booted_stands k images m booted s)
-    ∙ ap (option_map says.Refused) parts
+    ap (λ (b : Bool). cond b (option_map answers.Refused (broken_appointment (known_of m) e 0 (0 ∷ []) (replica m 0).up)) (Some (answers.Refused 9))) (booted_stands k images m booted s)
+    ∙ ap (option_map answers.Refused) parts

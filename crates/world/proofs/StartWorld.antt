@@ -33,6 +33,7 @@ use Rattle.world.proofs.Ruled.{above_same, appointment_same, noted_appointment, 
 use Rattle.world.proofs.StartLines.{appointment_to, start_lines, with_more, as_entry}
 use Rattle.world.proofs.StartLogs.{start}
 use Rattle.world.proofs.StartStates.{loss_same, start_still, start_serving, start_closed_first, start_closed_behind}
+use Rattle.events.specs.declared.answer.Answer.TheVariants as answers
 
 -- ---- what the lines tell the world
 
@@ -122,8 +123,8 @@ known_same k m known ruled rule = same_Some ruled.known known (sym ruled.rule �
 
 refuses_none : (m : Machine) (e : Epoch) → is_booted m ≡ true → (replica m 0).up ≡ true → broken_appointment (known_of m) e 0 (0 ∷ []) true ≡ None → refusal m (Appoint e 0 (0 ∷ [])) ≡ None
 refuses_none m e booted is_up lawful =
-    ap (λ (b : Bool). cond b (option_map says.Refused (broken_appointment (known_of m) e 0 (0 ∷ []) (replica m 0).up)) (Some (says.Refused 9))) booted
-    ∙ (ap (λ (b : Bool). option_map says.Refused (broken_appointment (known_of m) e 0 (0 ∷ []) b)) is_up ∙ ap (option_map says.Refused) lawful)
+    ap (λ (b : Bool). cond b (option_map answers.Refused (broken_appointment (known_of m) e 0 (0 ∷ []) (replica m 0).up)) (Some (answers.Refused 9))) booted
+    ∙ (ap (λ (b : Bool). option_map answers.Refused (broken_appointment (known_of m) e 0 (0 ∷ []) b)) is_up ∙ ap (option_map answers.Refused) lawful)
 
 pub appoints : (k : Kept) (images : Areas → Type 0) (m : Machine) (r : Open) (known : Known) (e : Epoch) → MayAppoint k r known e → StandsFor k images m → Appoints k.last r images m e
 appoints k images m r known e a s =

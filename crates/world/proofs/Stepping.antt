@@ -11,7 +11,7 @@ use Rattle.log_store.specs.Durable.{durable, StandForOneOf}
 use Rattle.log_store.specs.Epochs.{later}
 use Rattle.log_store.specs.Growth.{after}
 use Rattle.events.specs.declared.call.Call.{Call}
-use Rattle.events.specs.declared.call.Call.TheVariants.{Begin, Make, Get, GetForUpdate, Set, Add, Delete, Commit, Abort}
+use Rattle.events.specs.declared.call.Call.TheVariants.{Begin, Make, OnKey, Commit, Abort}
 use Rattle.order_machine.specs.declared.observation.Observation.{Observation}
 use Rattle.txn_front.specs.Front.{Fronted, Going, going_of, nothing, AreAlike}
 use Rattle.txn_front.proofs.Fronts.{AreAlike-trans}
@@ -36,11 +36,7 @@ lengthened_id (suc n) epoch r = refl
 answered_id : (r : Open) (n : ℕ) (call : Call) → (answered n call r).id ≡ r.id
 answered_id r n Begin = lengthened_id n r.epoch r
 answered_id r n (Make t name kind) = lengthened_id n r.epoch r
-answered_id r n (Get t name key) = lengthened_id n r.epoch r
-answered_id r n (GetForUpdate t name key) = lengthened_id n r.epoch r
-answered_id r n (Set t name key value) = lengthened_id n r.epoch r
-answered_id r n (Add t name key value) = lengthened_id n r.epoch r
-answered_id r n (Delete t name key) = lengthened_id n r.epoch r
+answered_id r n (OnKey t name key asked) = lengthened_id n r.epoch r
 answered_id r n (Commit t) = by (going_of r.front t)
   where
     by : (o : Option Going) → (option_map_or (λ g. committed_open n t g r) o r).id ≡ r.id

@@ -8,7 +8,7 @@ use Rattle.rc_base.specs.declared.ids.TxnId.{TxnId}
 use Rattle.rc_base.specs.Ids.{no_epoch, is_epoch, epoch_lt, epoch_le}
 use Rattle.replica.proofs.EpochOrder.{epoch_le_lt, epoch_le_not, epoch_lt_asym, epoch_lt_le}
 use Rattle.rc_base.proofs.SameIds.{is_epoch_same}
-use Rattle.config_rule.specs.declared.answers.Answer.{Answer}
+use Rattle.config_rule.specs.declared.answers.SurveyAnswer.{SurveyAnswer}
 use Rattle.config_rule.specs.Rule.{with_answer}
 use Rattle.disk_model.specs.Disk.{Areas, Each}
 use Rattle.log_records.specs.declared.record.Physical.TheVariants.{Fence}
@@ -39,33 +39,34 @@ use Rattle.world.specs.World.{AsRole, Serving, Resting, Closed, IsOpen, IsSound,
 use Rattle.world.proofs.Changed.{runs_alike}
 use Rattle.world.proofs.Sound.{BeginsWith, begins_still, sound_later}
 use Rattle.world.proofs.Surveys.{RoleEnds, below_all, found_any, survey_noted, shut_of, progress_serves, ignored_serves, survey_faults}
+use Rattle.events.specs.declared.answer.Answer.TheVariants as answers
 
 -- ---- the course
 
-abbrev pub surveyed_in : machine.Survey → List Answer → Course → Course
+abbrev pub surveyed_in : machine.Survey → List SurveyAnswer → Course → Course
 surveyed_in s answers course = record course { answers = answers; surveys = s ∷ course.surveys }
 
-course_surveyed : (s : machine.Survey) (answers : List Answer) (course : Course) → IsCourse course → IsCourse (surveyed_in s answers course)
+course_surveyed : (s : machine.Survey) (answers : List SurveyAnswer) (course : Course) → IsCourse course → IsCourse (surveyed_in s answers course)
 course_surveyed s answers course c = record { each = c.each; latest = c.latest }
 
-past_surveyed : (s : machine.Survey) (answers : List Answer) (course : Course) (entries : List Entry) (acknowledged : List TxnId) (txns : List (TxnId × Txn)) → ArePast course entries acknowledged txns → ArePast (surveyed_in s answers course) entries acknowledged txns
+past_surveyed : (s : machine.Survey) (answers : List SurveyAnswer) (course : Course) (entries : List Entry) (acknowledged : List TxnId) (txns : List (TxnId × Txn)) → ArePast course entries acknowledged txns → ArePast (surveyed_in s answers course) entries acknowledged txns
 past_surveyed s answers course entries acknowledged txns p = record { each = p.each; held = p.held; held_within = p.held_within }
 
-fence_surveyed : (s : machine.Survey) (answers : List Answer) (course : Course) (fence : Epoch) → IsFence course fence → IsFence (surveyed_in s answers course) fence
+fence_surveyed : (s : machine.Survey) (answers : List SurveyAnswer) (course : Course) (fence : Epoch) → IsFence course fence → IsFence (surveyed_in s answers course) fence
 fence_surveyed s answers course fence f = ⊎_elim (λ low. inl low) (λ told. inr (or_right (is_epoch fence s.epoch) (list_any (λ (t : machine.Survey). is_epoch fence t.epoch) course.surveys) told)) f
 
-fence_later : (b : Bool) (e : Epoch) (faulted : Bool) (answers : List Answer) (course : Course) (fence : Epoch) → IsFence course fence → IsFence (surveyed_in (record { epoch = e; faulted = faulted }) answers course) (cond b e fence)
+fence_later : (b : Bool) (e : Epoch) (faulted : Bool) (answers : List SurveyAnswer) (course : Course) (fence : Epoch) → IsFence course fence → IsFence (surveyed_in (record { epoch = e; faulted = faulted }) answers course) (cond b e fence)
 fence_later true e faulted answers course fence f = inr (or_left (is_epoch e e) (list_any (λ (t : machine.Survey). is_epoch e t.epoch) course.surveys) (is_epoch_same e))
 fence_later false e faulted answers course fence f = fence_surveyed (record { epoch = e; faulted = faulted }) answers course fence f
 
-fence_by : (b : Bool) (e : Epoch) (faulted : Bool) (answers : List Answer) (course : Course) (log : Log) → IsFence course log.fence → IsFence (surveyed_in (record { epoch = e; faulted = faulted }) answers course) (after log (cond b (Fence e ∷ []) [] ++ [])).fence
+fence_by : (b : Bool) (e : Epoch) (faulted : Bool) (answers : List SurveyAnswer) (course : Course) (log : Log) → IsFence course log.fence → IsFence (surveyed_in (record { epoch = e; faulted = faulted }) answers course) (after log (cond b (Fence e ∷ []) [] ++ [])).fence
 fence_by true e faulted answers course log f = fence_later (epoch_lt log.fence e) e faulted answers course log.fence f
 fence_by false e faulted answers course log f = fence_surveyed (record { epoch = e; faulted = faulted }) answers course log.fence f
 
-fence_behind : (r : Open) (e : Epoch) (faulted : Bool) (answers : List Answer) (course : Course) (log : Log) → IsFence course log.fence → IsFence (surveyed_in (record { epoch = e; faulted = faulted }) answers course) (log_once r (steps.Survey e) log).fence
+fence_behind : (r : Open) (e : Epoch) (faulted : Bool) (answers : List SurveyAnswer) (course : Course) (log : Log) → IsFence course log.fence → IsFence (surveyed_in (record { epoch = e; faulted = faulted }) answers course) (log_once r (steps.Survey e) log).fence
 fence_behind r e faulted answers course log f = fence_by (epoch_lt r.fence e) e faulted answers course log f
 
-sound_surveyed : (s : machine.Survey) (answers : List Answer) (entries : List Entry) (txns : List (TxnId × Txn)) (course : Course) (last number : ℕ) (log then : Log) → last ≤ number → then.records ≡ log.records → IsFence (surveyed_in s answers course) then.fence → IsSound entries txns course last log → IsSound entries txns (surveyed_in s answers course) number then
+sound_surveyed : (s : machine.Survey) (answers : List SurveyAnswer) (entries : List Entry) (txns : List (TxnId × Txn)) (course : Course) (last number : ℕ) (log then : Log) → last ≤ number → then.records ≡ log.records → IsFence (surveyed_in s answers course) then.fence → IsSound entries txns course last log → IsSound entries txns (surveyed_in s answers course) number then
 sound_surveyed s answers entries txns course last number log then rising records fence h = record {
   more = h.more;
   holds = h.holds ∙ ap commits_in (sym records);
@@ -101,9 +102,9 @@ pub answered_surveyed : (last number : ℕ) (r o : Open) (images now : Areas →
     × (o.role ≡ Other)
     × Resting number o now (survey_noted e (record { epoch = e; from = 0; last_epoch = r.epoch; last = r.last }) (without_role m 0))
 answered_surveyed last number r o images now m e rising s allowed above high st =
-    let a : Answer = record { epoch = e; from = 0; last_epoch = r.epoch; last = r.last } in
+    let a : SurveyAnswer = record { epoch = e; from = 0; last_epoch = r.epoch; last = r.last } in
     let course : Course = s.rests.course in
-    let answers : List Answer = with_answer a course.answers in
+    let answers : List SurveyAnswer = with_answer a course.answers in
     let survey : machine.Survey = record { epoch = e; faulted = false } in
     let done = progress_serves m e r.epoch r.last.0 s.entries s.rests.acknowledged s.rests.txns course r.shown s.rests.is allowed (progress_is last r images m e s above) in
     let step : stepped r (steps.Survey e) ≡ record r { fence = later r.fence e; role = Other; front = nothing no_epoch } = ap (λ (b : Bool). cond b r (record r { fence = later r.fence e; role = Other; front = nothing no_epoch })) high in

@@ -2,11 +2,15 @@
 use Rattle.std.proofs.Common.{◌≡◌, ◌∙◌, sym, ap, ap₂, subst, refl, ℕ, ◌≤◌, max, Bool, true, false, cond, not, ◌&&◌, nat_lt, List, [], ◌∷◌, ◌++◌, map, Some, None, is_some, Result, Ok, Err, IfOk, OnOk, OnErr, inr}
 use Rattle.std.specs.List.{cons_option}
 use Rattle.std.proofs.lemmas.Option.{same_Some}
+use Rattle.order_machine.specs.AnswerLines.{line_of_answer}
+use Rattle.std.specs.Prelude.{option_map}
+use Rattle.events.specs.declared.answer.Answer.{Answer}
+use Rattle.world.proofs.Faultless.{answer_faultless}
 use Rattle.world.proofs.Plain.{not_below, not_newly}
 use Rattle.world.proofs.Booted.{once_standing}
 use Rattle.rc_base.specs.declared.ids.Epoch.{Epoch}
 use Rattle.rc_base.specs.Ids.{no_epoch, epoch_lt}
-use Rattle.config_rule.specs.declared.answers.Answer.{Answer}
+use Rattle.config_rule.specs.declared.answers.SurveyAnswer.{SurveyAnswer}
 use Rattle.config_rule.specs.Rule.{Known, is_above, after_answer, with_answer}
 use Rattle.disk_model.specs.Disk.{Areas}
 use Rattle.log_store.specs.declared.kept.Kept.{Kept as Log}
@@ -40,11 +44,12 @@ use Rattle.world.proofs.Roleless.{rests_ended}
 use Rattle.world.proofs.Ruled.{survey_same}
 use Rattle.world.proofs.Surveyed.{IsSurveyed, answered_surveyed, ignored_surveyed, faulted_surveyed, survey_still}
 use Rattle.world.proofs.Surveys.{RoleEnds, role_ends, survey_noted, shut_of}
+use Rattle.events.specs.declared.answer.Answer.TheVariants as answers
 
 -- ---- refusals
 
-refusal_is : (m : Machine) (e : Epoch) (b : Bool) → machine.is_booted m ≡ true → is_above_all m e ≡ b → refusal m (Survey 0 e) ≡ cond b (down_of m 0) (Some (says.Refused 1))
-refusal_is m e b booted above = once_standing m (cond (is_above_all m e) (down_of m 0) (Some (says.Refused 1))) booted ∙ ap (λ (c : Bool). cond c (down_of m 0) (Some (says.Refused 1))) above
+refusal_is : (m : Machine) (e : Epoch) (b : Bool) → machine.is_booted m ≡ true → is_above_all m e ≡ b → refusal m (Survey 0 e) ≡ cond b (down_of m 0) (Some (answers.Refused 1))
+refusal_is m e b booted above = once_standing m (cond (is_above_all m e) (down_of m 0) (Some (answers.Refused 1))) booted ∙ ap (λ (c : Bool). cond c (down_of m 0) (Some (answers.Refused 1))) above
 
 above_is : (k : Kept) (images : Areas → Type 0) (e : Epoch) (known : Known) (b : Bool) → k.rule ≡ Some known → is_above known.appointed e ≡ b → (m : Machine) → StandsFor k images m → is_above_all m e ≡ b
 above_is k images e known b rule above m s =
@@ -52,49 +57,45 @@ above_is k images e known b rule above m s =
     let same : r.known ≡ known = same_Some r.known known (sym r.rule ∙ rule) in
     sym (survey_same k m r e) ∙ (ap (λ (x : Known). is_above x.appointed e) same ∙ above)
 
-pub survey_refused : (k : Kept) (images : Areas → Type 0) (e : Epoch) (known : Known) → k.rule ≡ Some known → is_above known.appointed e ≡ false → (m : Machine) → StandsFor k images m → refusal m (Survey 0 e) ≡ Some (says.Refused 1)
+pub survey_refused : (k : Kept) (images : Areas → Type 0) (e : Epoch) (known : Known) → k.rule ≡ Some known → is_above known.appointed e ≡ false → (m : Machine) → StandsFor k images m → refusal m (Survey 0 e) ≡ Some (answers.Refused 1)
 survey_refused k images e known rule above m s = refusal_is m e false (booted_stands k images m (ap is_some rule) s) (above_is k images e known false rule above m s)
 
-pub survey_down : (k : Kept) (images : Areas → Type 0) (e : Epoch) (known : Known) → k.rule ≡ Some known → is_above known.appointed e ≡ true → k.replica ≡ None → (m : Machine) → StandsFor k images m → refusal m (Survey 0 e) ≡ Some (says.Down 0)
+pub survey_down : (k : Kept) (images : Areas → Type 0) (e : Epoch) (known : Known) → k.rule ≡ Some known → is_above known.appointed e ≡ true → k.replica ≡ None → (m : Machine) → StandsFor k images m → refusal m (Survey 0 e) ≡ Some (answers.Down 0)
 survey_down k images e known rule above none m s =
     let c = closed_of k images m (ap is_some rule) none s in
     let down : (replica m 0).up ≡ false = subst (λ n. (replica n 0).up ≡ false) (sym c.is_shut.is) refl in
     refusal_is m e true (booted_stands k images m (ap is_some rule) s) (above_is k images e known true rule above m s)
-    ∙ ap (λ (b : Bool). cond b None (Some (says.Down 0))) down
+    ∙ ap (λ (b : Bool). cond b None (Some (answers.Down 0))) down
 
 survey_goes : (k : Kept) (images : Areas → Type 0) (e : Epoch) (known : Known) (r : Open) → k.rule ≡ Some known → is_above known.appointed e ≡ true → k.replica ≡ Some r → (m : Machine) → StandsFor k images m → refusal m (Survey 0 e) ≡ None
 survey_goes k images e known r rule above some m s =
     refusal_is m e true (booted_stands k images m (ap is_some rule) s) (above_is k images e known true rule above m s)
-    ∙ ap (λ (b : Bool). cond b None (Some (says.Down 0))) (up_role r.role k.last r images m (open_of k images m r (ap is_some rule) some s))
+    ∙ ap (λ (b : Bool). cond b None (Some (answers.Down 0))) (up_role r.role k.last r images m (open_of k images m r (ap is_some rule) some s))
 
 -- ---- the lines
 
 -- a survey tells its answer alone
-told_quiet : (r s : Open) (answer : Observation) → nat_lt r.shown s.shown ≡ false → (step_spec.is_active s.role && not (step_spec.is_active r.role)) ≡ false → told r.id r.shown (step_spec.is_active r.role) (quiet s (Some answer)) ≡ answer ∷ []
+told_quiet : (r s : Open) (answer : Answer) → nat_lt r.shown s.shown ≡ false → (step_spec.is_active s.role && not (step_spec.is_active r.role)) ≡ false → told r.id r.shown (step_spec.is_active r.role) (quiet s (Some answer)) ≡ line_of_answer answer ∷ []
 told_quiet r s answer shown active =
-    ap₂ (λ (a b : Bool). map order_line [] ++ cons_if a (says.View r.id s.shown) ++ cons_if b (says.Active r.id) ++ map says.Committed [] ++ cons_option (Some answer) []) shown active
+    ap₂ (λ (a b : Bool). map order_line [] ++ cons_if a (says.View r.id s.shown) ++ cons_if b (says.Active r.id) ++ map says.Committed [] ++ cons_option (option_map line_of_answer (Some answer)) []) shown active
 
-pub told_survey : (r : Open) (e : Epoch) → told_by r (steps.Survey e) ≡ survey_answer r e ∷ []
+pub told_survey : (r : Open) (e : Epoch) → told_by r (steps.Survey e) ≡ line_of_answer (survey_answer r e) ∷ []
 told_survey r e = by (epoch_lt e r.fence) (survey_answer r e)
   where
     laid : Open
     laid = record r { fence = later r.fence e; role = Other; front = nothing no_epoch }
 
-    by : (low : Bool) (answer : Observation) → told r.id r.shown (step_spec.is_active r.role) (quiet (cond low r laid) (Some answer)) ≡ answer ∷ []
+    by : (low : Bool) (answer : Answer) → told r.id r.shown (step_spec.is_active r.role) (quiet (cond low r laid) (Some answer)) ≡ line_of_answer answer ∷ []
     by true answer = told_quiet r r answer (not_below r.shown) (not_newly (step_spec.is_active r.role))
     by false answer = told_quiet r laid answer (not_below r.shown) refl
 
 -- none of them tells a fault
 pub survey_faultless : (q : ℕ) (r : Open) (e : Epoch) → faults_in q (told_by r (steps.Survey e)) ≡ 0
-survey_faultless q r e = ap (faults_in q) (told_survey r e) ∙ by (epoch_lt e r.fence)
-  where
-    by : (low : Bool) → faults_in q (cond low (says.IgnoredOldEpoch r.fence e) (says.Progress r.id r.epoch r.last.0) ∷ []) ≡ 0
-    by true = refl
-    by false = refl
+survey_faultless q r e = ap (faults_in q) (told_survey r e) ∙ answer_faultless q (survey_answer r e)
 
 -- ---- it is answered
 
-abbrev answer_in : Open → Epoch → Answer
+abbrev answer_in : Open → Epoch → SurveyAnswer
 answer_in r e = record { epoch = e; from = 0; last_epoch = r.epoch; last = r.last }
 
 abbrev pub answered_in : Kept → ℕ → Known → Epoch → Open → Open → Kept
@@ -102,7 +103,7 @@ answered_in k number known e r o = record k { last = number; rule = Some (after_
 
 ruled_noted : (k : Kept) (number : ℕ) (known : Known) (e : Epoch) (r o : Open) (images : Areas → Type 0) (m : Machine) → k.rule ≡ Some known → RoleEnds m r.fence → Resting k.last r images (without_role m 0) → IsRuled k m → IsRuled (answered_in k number known e r o) (survey_noted e (answer_in r e) (without_role m 0))
 ruled_noted k number known e r o images m rule ends rests ruled =
-    let a : Answer = answer_in r e in
+    let a : SurveyAnswer = answer_in r e in
     let same : ruled.known ≡ known = same_Some ruled.known known (sym ruled.rule ∙ rule) in
     record {
       known = after_answer known a;
@@ -211,8 +212,8 @@ fault_serves k new images now e known r number lines (Err w) rule above some ris
 pub answer_told : (r : Open) (e : Epoch) → r.id ≡ 0 → epoch_lt e r.fence ≡ false → told_by r (steps.Survey e) ≡ says.Progress 0 r.epoch r.last.0 ∷ []
 answer_told r e first high =
     told_survey r e
-    ∙ (ap (λ (b : Bool). cond b (says.IgnoredOldEpoch r.fence e) (says.Progress r.id r.epoch r.last.0) ∷ []) high
+    ∙ (ap (λ (b : Bool). line_of_answer (cond b (answers.IgnoredOldEpoch r.fence e) (answers.Progress r.id r.epoch r.last.0)) ∷ []) high
     ∙ ap (λ (n : ℕ). says.Progress n r.epoch r.last.0 ∷ []) first)
 
 pub ignored_told : (r : Open) (e : Epoch) → epoch_lt e r.fence ≡ true → told_by r (steps.Survey e) ≡ says.IgnoredOldEpoch r.fence e ∷ []
-ignored_told r e low = told_survey r e ∙ ap (λ (b : Bool). cond b (says.IgnoredOldEpoch r.fence e) (says.Progress r.id r.epoch r.last.0) ∷ []) low
+ignored_told r e low = told_survey r e ∙ ap (λ (b : Bool). line_of_answer (cond b (answers.IgnoredOldEpoch r.fence e) (answers.Progress r.id r.epoch r.last.0)) ∷ []) low

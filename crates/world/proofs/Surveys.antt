@@ -7,7 +7,7 @@ use Rattle.rc_base.specs.declared.ids.Epoch.{Epoch}
 use Rattle.rc_base.specs.declared.ids.TxnId.{TxnId}
 use Rattle.rc_base.specs.Ids.{is_epoch, epoch_lt}
 use Rattle.rc_base.proofs.SameIds.{is_epoch-true}
-use Rattle.config_rule.specs.declared.answers.Answer.{Answer}
+use Rattle.config_rule.specs.declared.answers.SurveyAnswer.{SurveyAnswer}
 use Rattle.config_rule.specs.Rule.{with_answer}
 use Rattle.disk_model.specs.Disk.{Areas}
 use Rattle.events.specs.declared.event.Event.TheVariants.{Survey}
@@ -24,6 +24,7 @@ use Rattle.world.specs.Standing.{Course, resting, shut, standing}
 use Rattle.world.specs.World.{AsRole}
 use Rattle.world.proofs.Served.{served_from}
 use Rattle.world.proofs.WithoutRole.{holds_without_role}
+use Rattle.events.specs.declared.answer.Answer.TheVariants as answers
 
 -- ---- the epochs that were appointed
 
@@ -48,7 +49,7 @@ found_any f (a ∷ xs) there = found_by (is_epoch f a.epoch) (list_any (λ b. is
 -- ---- the machine behind a survey
 
 -- its answer is noted
-abbrev pub survey_noted : Epoch → Answer → Machine → Machine
+abbrev pub survey_noted : Epoch → SurveyAnswer → Machine → Machine
 survey_noted e a n = record (with_survey n 0 e false) { answers = with_answer a n.answers }
 
 -- a replica without a role is closed
@@ -72,7 +73,7 @@ pub progress_serves : (m : Machine) (e : Epoch) (last_epoch : Epoch) (last : ℕ
     IsWhole m (Survey 0 e) (says.Progress 0 last_epoch last ∷ [])
     × (moved m (Survey 0 e) (says.Progress 0 last_epoch last ∷ []) ≡ survey_noted e (record { epoch = e; from = 0; last_epoch = last_epoch; last = record { 0 = last } }) (without_role m 0))
 progress_serves m e last_epoch last entries acknowledged txns course shown is allowed progress =
-    let a : Answer = record { epoch = e; from = 0; last_epoch = last_epoch; last = record { 0 = last } } in
+    let a : SurveyAnswer = record { epoch = e; from = 0; last_epoch = last_epoch; last = record { 0 = last } } in
     let holds : HoldsBehind (survey_noted e a (without_role m 0)) =
     subst (λ n. HoldsBehind (survey_noted e a n)) (sym is)
     (holds_without_role entries acknowledged (record (resting course shown) { surveys = record { epoch = e; faulted = false } ∷ course.surveys }) txns (record course { answers = with_answer a course.answers }) refl) in

@@ -20,6 +20,7 @@ use Rattle.events.specs.Calls.{txn_named}
 use Rattle.txn_front.specs.Front.{Fronted, Going, going_of, told, txn_at}
 use Rattle.world.specs.Running.{running, state_of, Runs}
 use Rattle.lock_laws.proofs.ProtectedGrants.{against-alike}
+use Rattle.events.specs.declared.answer.Answer.TheVariants as answers
 
 -- ---- the state that is shown
 
@@ -73,20 +74,20 @@ live_reply_alike a b s s' t call alike same =
     ap (λ o. locked_or o (reply_to s call)) (against-alike a b alike t (locks_at s call)) ∙ ap (λ x. live_reply b x t call) same
 
 live_is : (front : Fronted) (shown : ℕ) (contents : State) (m : Machine) (h : Runs front shown contents m) (call : Call) (t : TxnId) (o : Option Going) → going_of front t ≡ o →
-    option_map_or (λ x. live_reply h.grants (seen (machine_of h) 0 x) t call) (live_txn (machine_of h) 0 t) (Some (plain (says.Ended t)))
-    ≡ option_map_or (λ going. live_reply front.grants (folded contents going.ops) t call) o (Some (plain (says.Ended t)))
+    option_map_or (λ x. live_reply h.grants (seen (machine_of h) 0 x) t call) (live_txn (machine_of h) 0 t) (Some (plain (answers.Ended t)))
+    ≡ option_map_or (λ going. live_reply front.grants (folded contents going.ops) t call) o (Some (plain (answers.Ended t)))
 live_is front shown contents m h call t None none =
-    ap (λ o. option_map_or (λ x. live_reply h.grants (seen (machine_of h) 0 x) t call) o (Some (plain (says.Ended t)))) (cond-false (is_live (machine_of h) 0 t) (lookup (is_txn t) h.txns) None (not_live front shown contents m h t none))
+    ap (λ o. option_map_or (λ x. live_reply h.grants (seen (machine_of h) 0 x) t call) o (Some (plain (answers.Ended t)))) (cond-false (is_live (machine_of h) 0 t) (lookup (is_txn t) h.txns) None (not_live front shown contents m h t none))
 live_is front shown contents m h call t (Some g) is =
     let k = known_of front shown contents m h t g is in
-    ap (λ o. option_map_or (λ x. live_reply h.grants (seen (machine_of h) 0 x) t call) o (Some (plain (says.Ended t)))) (cond-true (is_live (machine_of h) 0 t) (lookup (is_txn t) h.txns) None k.live_there ∙ k.known)
+    ap (λ o. option_map_or (λ x. live_reply h.grants (seen (machine_of h) 0 x) t call) o (Some (plain (answers.Ended t)))) (cond-true (is_live (machine_of h) 0 t) (lookup (is_txn t) h.txns) None k.live_there ∙ k.known)
     ∙ live_reply_alike h.grants front.grants (seen (machine_of h) 0 k.txn) (folded contents g.ops) t call h.alike (k.sees ∙ ap (λ s. folded s g.ops) (sym h.sees))
 
 pub answer_told : (front : Fronted) (shown : ℕ) (contents : State) (m : Machine) (h : Runs front shown contents m) (call : Call) → answer (machine_of h) 0 call ≡ told front contents call
 answer_told front shown contents m h call = by (txn_named call)
   where
     by : (named : Option TxnId) →
-        option_map_or (λ t. option_map_or (λ x. live_reply h.grants (seen (machine_of h) 0 x) t call) (live_txn (machine_of h) 0 t) (Some (plain (says.Ended t)))) named (answer (machine_of h) 0 Begin)
-        ≡ option_map_or (λ t. option_map_or (λ going. live_reply front.grants (folded contents going.ops) t call) (going_of front t) (Some (plain (says.Ended t)))) named (Some (plain (says.Txn (txn_at front (front.begins + 1)))))
+        option_map_or (λ t. option_map_or (λ x. live_reply h.grants (seen (machine_of h) 0 x) t call) (live_txn (machine_of h) 0 t) (Some (plain (answers.Ended t)))) named (answer (machine_of h) 0 Begin)
+        ≡ option_map_or (λ t. option_map_or (λ going. live_reply front.grants (folded contents going.ops) t call) (going_of front t) (Some (plain (answers.Ended t)))) named (Some (plain (answers.Txn (txn_at front (front.begins + 1)))))
     by None = let e = h.epoch in rw e refl
     by (Some t) = live_is front shown contents m h call t (going_of front t) refl

@@ -7,7 +7,7 @@ use Rattle.rc_base.specs.declared.ids.TxnId.{TxnId}
 use Rattle.rc_base.specs.Ids.{is_txn}
 use Rattle.events.specs.declared.event.Event.TheVariants.{Client}
 use Rattle.events.specs.declared.call.Call.{Call}
-use Rattle.events.specs.declared.call.Call.TheVariants.{Begin, Make, Get, GetForUpdate, Set, Add, Delete, Commit, Abort}
+use Rattle.events.specs.declared.call.Call.TheVariants.{Begin, Make, OnKey, Commit, Abort}
 use Rattle.order_machine.specs.declared.observation.Observation.{Observation}
 use Rattle.order_machine.specs.declared.observation.Observation.TheVariants as says
 use Rattle.order_machine.specs.Order.{Entry}
@@ -27,6 +27,8 @@ use Rattle.world.proofs.Ended.{ended_asking}
 use Rattle.world.proofs.Changed.{with_call}
 use Rattle.world.proofs.Past.{past_noted, follow_noted}
 use Rattle.world.proofs.WithoutRole.{holds_without_role}
+use Rattle.events.specs.declared.answer.Answer.{Answer}
+use Rattle.events.specs.declared.answer.Answer.TheVariants as answers
 
 -- what isn't told by the transactions' refused calls
 abbrev pub AreStill : List (TxnId × Txn) → List (TxnId × Txn) → Type 0
@@ -49,7 +51,7 @@ noted_stands entries acknowledged first txns course t call off no_op = by_known 
     by_known None e = (txns, refl, are_still txns)
     by_known (Some x) e = ((t, with_call x call) ∷ txns, refl, (λ c es acked p. past_noted c es acked txns t x call e p, λ es more f. follow_noted es txns t x call more e off no_op f))
 
-answered_stands : (entries : List Entry) (acknowledged : List TxnId) (first : Replica) (txns : List (TxnId × Txn)) (course : Course) (call : Call) (named : Option TxnId) (o : Observation) → is_refusal o ≡ true →
+answered_stands : (entries : List Entry) (acknowledged : List TxnId) (first : Replica) (txns : List (TxnId × Txn)) (course : Course) (call : Call) (named : Option TxnId) (o : Answer) → is_refusal o ≡ true →
     IsStill entries acknowledged first txns course (option_map_or (λ t. noted (standing entries acknowledged first txns course) t (record { call = call; answer = o; op = None })) named (standing entries acknowledged first txns course))
 answered_stands entries acknowledged first txns course call None o refused = (txns, refl, are_still txns)
 answered_stands entries acknowledged first txns course call (Some t) o refused = noted_stands entries acknowledged first txns course t (record { call = call; answer = o; op = None }) (ap (λ b. cond b false (is_some (reply_at [] call))) refused) refl
@@ -68,11 +70,7 @@ asks_nothing_inactive m call off = by call
     by : (c : Call) → asking m 0 c ≡ m
     by Begin = refl
     by (Make t name kind) = ended_asking m (Make t name kind) t refl (gone t)
-    by (Get t name key) = ended_asking m (Get t name key) t refl (gone t)
-    by (GetForUpdate t name key) = ended_asking m (GetForUpdate t name key) t refl (gone t)
-    by (Set t name key value) = ended_asking m (Set t name key value) t refl (gone t)
-    by (Add t name key value) = ended_asking m (Add t name key value) t refl (gone t)
-    by (Delete t name key) = ended_asking m (Delete t name key) t refl (gone t)
+    by (OnKey t name key asked) = ended_asking m (OnKey t name key asked) t refl (gone t)
     by (Commit t) = ended_asking m (Commit t) t refl (gone t)
     by (Abort t) = ended_asking m (Abort t) t refl (gone t)
 
@@ -81,8 +79,8 @@ pub down_serves : (entries : List Entry) (acknowledged : List TxnId) (last : ℕ
     × ((others : List (TxnId × Txn)) × (moved (standing entries acknowledged (shut course last) txns course) (Client 0 call) (says.Down 0 ∷ []) ≡ standing entries acknowledged (shut course last) others course) × AreStill txns others)
 down_serves entries acknowledged last txns course call =
     let m : Machine = standing entries acknowledged (shut course last) txns course in
-    let still = answered_stands entries acknowledged (shut course last) txns course call (txn_named call) (says.Down 0) refl in
-    let done = answer_serves m m 0 call (says.Down 0) None (IsStill entries acknowledged (shut course last) txns course) (call_unrefused entries acknowledged (shut course last) txns course call) (asks_nothing_inactive m call refl) refl refl (holds_still entries acknowledged (shut course last) txns course _ refl still) still in
+    let still = answered_stands entries acknowledged (shut course last) txns course call (txn_named call) (answers.Down 0) refl in
+    let done = answer_serves m m 0 call (answers.Down 0) None (IsStill entries acknowledged (shut course last) txns course) (call_unrefused entries acknowledged (shut course last) txns course call) (asks_nothing_inactive m call refl) refl refl (holds_still entries acknowledged (shut course last) txns course _ refl still) still in
     done
 
 pub not_active_serves : (entries : List Entry) (acknowledged : List TxnId) (shown : ℕ) (txns : List (TxnId × Txn)) (course : Course) (call : Call) →
@@ -90,6 +88,6 @@ pub not_active_serves : (entries : List Entry) (acknowledged : List TxnId) (show
     × ((others : List (TxnId × Txn)) × (moved (standing entries acknowledged (resting course shown) txns course) (Client 0 call) (says.NotActive 0 ∷ []) ≡ standing entries acknowledged (resting course shown) others course) × AreStill txns others)
 not_active_serves entries acknowledged shown txns course call =
     let m : Machine = standing entries acknowledged (resting course shown) txns course in
-    let still = answered_stands entries acknowledged (resting course shown) txns course call (txn_named call) (says.NotActive 0) refl in
-    let done = answer_serves m m 0 call (says.NotActive 0) None (IsStill entries acknowledged (resting course shown) txns course) (call_unrefused entries acknowledged (resting course shown) txns course call) (asks_nothing_inactive m call refl) refl refl (holds_still entries acknowledged (resting course shown) txns course _ refl still) still in
+    let still = answered_stands entries acknowledged (resting course shown) txns course call (txn_named call) (answers.NotActive 0) refl in
+    let done = answer_serves m m 0 call (answers.NotActive 0) None (IsStill entries acknowledged (resting course shown) txns course) (call_unrefused entries acknowledged (resting course shown) txns course call) (asks_nothing_inactive m call refl) refl refl (holds_still entries acknowledged (resting course shown) txns course _ refl still) still in
     done

@@ -3,7 +3,7 @@ use Rattle.std.specs.Prelude.{ℕ, Bool, true, false, List, [], ◌∷◌, repli
 use Rattle.rc_base.specs.declared.ids.Epoch.{Epoch}
 use Rattle.rc_base.specs.declared.ids.TxnId.{TxnId}
 use Rattle.key_locks.specs.Grants.{Grant}
-use Rattle.config_rule.specs.declared.answers.Answer.{Answer}
+use Rattle.config_rule.specs.declared.answers.SurveyAnswer.{SurveyAnswer}
 use Rattle.order_machine.specs.Order.{Entry}
 use Rattle.order_machine.specs.Machine.{Machine, Replica, Survey, Appointment, Txn, never_opened}
 use Rattle.order_machine.specs.Transitions.{first_epoch}
@@ -14,7 +14,7 @@ pub record Course : Type 0 where
   pub first : Appointment
   pub later : List Appointment
   pub latest : Epoch
-  pub answers : List Answer
+  pub answers : List SurveyAnswer
   pub surveys : List Survey
 
 -- the boot's appointment, and whether its primary was ever active

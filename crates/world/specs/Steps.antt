@@ -1,5 +1,5 @@
 -- The steps of an open replica in an event, and the lines that they print.
-use Rattle.std.specs.Prelude.{◌≡◌, ◌≢◌, ◌⊎◌, ℕ, ◌+◌, ◌-◌, nat_lt, max, drop, length, Bool, true, false, not, ◌&&◌, List, [], ◌∷◌, ◌++◌, map, Ok, if◌then◌else◌}
+use Rattle.std.specs.Prelude.{◌≡◌, ◌≢◌, ◌⊎◌, ℕ, ◌+◌, ◌-◌, nat_lt, max, drop, length, Bool, true, false, not, ◌&&◌, List, [], ◌∷◌, ◌++◌, map, option_map, Ok, if◌then◌else◌}
 use Rattle.std.specs.List.{cons_option}
 use Rattle.disk_model.specs.Disk.{Areas, Each}
 use Rattle.txn_table.specs.declared.committed.Committed.{Committed}
@@ -13,6 +13,7 @@ use Rattle.replica.specs.declared.step.StepEvent.{StepEvent}
 use Rattle.replica.specs.declared.step.StepEvent.TheVariants as steps
 use Rattle.replica.specs.Open.{Open}
 use Rattle.replica.specs.Step.{block, outcome, stepped, is_active}
+use Rattle.order_machine.specs.AnswerLines.{line_of_answer}
 
 -- ---- lines
 
@@ -34,7 +35,7 @@ told id shown was_active outcome =
     ++ cons_if (nat_lt shown outcome.shown) (says.View id outcome.shown)
     ++ cons_if (outcome.active && not was_active) (says.Active id)
     ++ map says.Committed outcome.acknowledged
-    ++ cons_option outcome.answer []
+    ++ cons_option (option_map line_of_answer outcome.answer) []
 
 abbrev pub told_by : Open → StepEvent → List Observation
 told_by r event = told r.id r.shown (is_active r.role) (outcome r event)

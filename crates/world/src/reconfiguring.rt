@@ -16,10 +16,10 @@ use crate::telling::tells_active;
 use crate::world::World;
 use config_rule::RuleError;
 use disk_model::CrashDisk;
+use events::Replicas;
 use order_machine::{Observation, Observations};
 use rc_base::{Epoch, Lsn, NoMemory, ReplicaId};
 use replica::{StepError, StepEvent};
-use script_text::Replicas;
 
 impl World {
     pub(crate) fn survey<M: CrashDisk>(

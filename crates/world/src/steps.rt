@@ -14,10 +14,10 @@ ghost use Rattle.world.specs.Steps.{told, told_rise, told_by, order_line, is_due
 ghost use Rattle.world.specs.World.{IsOpen};
 
 use disk_model::CrashDisk;
-use order_machine::{Observation, Observations};
+use events::Call;
+use order_machine::{Observation, Observations, line_of_answer};
 use rc_base::{NoMemory, ReplicaId};
 use replica::{Commits, Outcome, Replica, Role, StepError, StepEvent, TxnIds};
-use script_text::Call;
 
 // Whether the role is that of an active primary.
 pub(crate) fn is_active(role: Role) -> bool
@@ -91,7 +91,7 @@ fn tell(
     tell_rise(replica, shown, was_active, now_shown, active, lines)?;
     tell_acknowledged(acknowledged, lines)?;
     if let Some(answer) = answer {
-        lines.push(answer)?;
+        lines.push(line_of_answer(answer))?;
     }
     Ok(())
 }

@@ -17,10 +17,10 @@ use crate::steps::take_call;
 use crate::telling::{most_shown, tells_active};
 use config_rule::Rule;
 use disk_model::CrashDisk;
+use events::{Call, Event};
 use order_machine::{Observation, Observations};
 use rc_base::{NoMemory, ReplicaId};
 use replica::{Replica, StepError};
-use script_text::{Call, Event};
 use std::alloc::Global;
 use std::marker::Model;
 

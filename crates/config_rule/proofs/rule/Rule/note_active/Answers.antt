@@ -1,6 +1,6 @@
 use Rattle.std.proofs.Common.{ℕ, List, ◌∙◌, ap, sym, position}
 use Rattle.config_rule.specs.Rule.{Known, after_active, made_active}
-use Rattle.config_rule.specs.declared.answers.Answer.{Answer}
+use Rattle.config_rule.specs.declared.answers.SurveyAnswer.{SurveyAnswer}
 use Rattle.config_rule.specs.declared.appointments.Appointed.{Appointed}
 use Rattle.config_rule.specs.Kept.{configuration_at}
 use Rattle.config_rule.proofs.Places.{active_in_place, unchanged_without, of_epoch}
@@ -12,7 +12,7 @@ returns-in-Some c =
     (ap (position (of_epoch c.args.epoch)) (sym c.deref.ensures.value) ∙ sym c.in-Some.ensures) c.index_mut-appointed.ensures.value
     ∙ ap (λ k. after_active k c.args.epoch) c.self.view_is
 
-abbrev known_with : List ℕ → List Answer → List Appointed → Known
+abbrev known_with : List ℕ → List SurveyAnswer → List Appointed → Known
 known_with current answers appointed = record { appointed = appointed; current = current; answers = answers }
 
 pub returns-in_default : goal.returns-in_default

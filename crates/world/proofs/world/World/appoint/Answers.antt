@@ -15,6 +15,7 @@ use Rattle.world.proofs.StartHandlers.{IsAsked, appointed_of, refuses_part}
 use Rattle.world.proofs.Still.{stands_still}
 use Rattle.world.proofs.world.World.appoint.Goals as goal
 use Rattle.world.proofs.world.World.appoint.Goals.{in-Ok, in-Err-Broken, in-Err-NoMemory}
+use Rattle.events.specs.declared.answer.Answer.TheVariants as answers
 
 served_at : {D : Type 0} (k new there : Kept) (images : D → Areas → Type 0) (before : Areas → Type 0) (disk other : D) (event : Event) (result given : Result (List Observation) WorldError) → there ≡ new → other ≡ disk → given ≡ result → Serves k new before (images disk) event result → Serves k there before (images other) event given
 served_at k new there images before disk other event result given self_is disk_is result_is serves =
@@ -50,7 +51,7 @@ returns-clause-serves g c =
           served_at c.args.self.now w.answered-in-Err-Broken.new.self c.match-appoint.self g.M.Disk.images (g.M.Disk.images c.args.disk.now) c.args.disk.now c.match-appoint.disk (Appoint c.args.epoch 0 (0 ∷ [])) w.answered-in-Err-Broken.result c.match-appoint.result w.self-is w.disk-is w.result-is
           (answered_serves c.args.self.now w.answered-in-Err-Broken.new.self (g.M.Disk.images c.args.disk.now) (Appoint c.args.epoch 0 (0 ∷ [])) (says.Refused part) c.args.number w.answered-in-Err-Broken.result lines
           (subst (λ (k : Kept). OnOk w.answered-in-Err-Broken.result (w.answered-in-Err-Broken.new.self ≡ k)) kept done.stays) done.memory (omega arith)
-          (λ m s. answered_refused m (Appoint c.args.epoch 0 (0 ∷ [])) (says.Refused part) (refuses_part c.args.self.now (g.M.Disk.images c.args.disk.now) c.args.epoch c.in-Some.rule c.args.primary c.as_slice.result.now c.is_some.result part asked broken m s)))
+          (λ m s. answered_refused m (Appoint c.args.epoch 0 (0 ∷ [])) (answers.Refused part) (refuses_part c.args.self.now (g.M.Disk.images c.args.disk.now) c.args.epoch c.in-Some.rule c.args.primary c.as_slice.result.now c.is_some.result part asked broken m s)))
       | in-Err-NoMemory w ↦
           served_at c.args.self.now c.match-appoint.self c.match-appoint.self g.M.Disk.images (g.M.Disk.images c.args.disk.now) c.args.disk.now c.match-appoint.disk (Appoint c.args.epoch 0 (0 ∷ [])) (Err errors.NoMemory) c.match-appoint.result refl w.disk-is w.result-is
           (λ m s. stands_still c.args.self.now (g.M.Disk.images c.args.disk.now) m s)

@@ -8,13 +8,14 @@ use Rattle.world.specs.Kept.{Kept}
 use Rattle.world.proofs.Booting.{booted_rule, boot_does, rule_told, rule_untold}
 use Rattle.world.proofs.world.World.boot.Goals as goal
 use Rattle.world.proofs.world.World.boot.Goals.{then-tells_active, else-tells_active}
+use Rattle.events.specs.declared.answer.Answer.TheVariants as answers
 
 pub returns-then-is_booted-clause-serves : goal.returns-then-is_booted-clause-serves
 returns-then-is_booted-clause-serves g c =
     let done = c.answered.ensures in
     let booted = sym c.is_booted.ensures ∙ c.if-is_booted.true in
     let again = boot_refuses c.args.self.now (g.M.Disk.images c.args.disk.now) booted in
-    answered_serves _ _ _ _ (says.Refused 9) c.args.number _ done.lines done.stays done.memory (omega arith) (λ m s. answered_refused m (Boot 0 (0 ∷ [])) (says.Refused 9) (again m s))
+    answered_serves _ _ _ _ (says.Refused 9) c.args.number _ done.lines done.stays done.memory (omega arith) (λ m s. answered_refused m (Boot 0 (0 ∷ [])) (answers.Refused 9) (again m s))
 
 pub returns-clause-serves : goal.returns-clause-serves
 returns-clause-serves g c =

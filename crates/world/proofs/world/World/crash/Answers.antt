@@ -7,12 +7,13 @@ use Rattle.world.proofs.Answered.{answered_serves, answered_refused, err_serves,
 use Rattle.world.proofs.Reopening.{crash_does}
 use Rattle.world.proofs.Still.{stands_still}
 use Rattle.world.proofs.world.World.crash.Goals as goal
+use Rattle.events.specs.declared.answer.Answer.TheVariants as answers
 
 pub returns-then-not-is_booted-clause-serves : goal.returns-then-not-is_booted-clause-serves
 returns-then-not-is_booted-clause-serves g c =
     let done = c.answered.ensures in
     let fresh = new_refuses c.args.self.now (g.M.Disk.images c.args.disk.now) (Crash 0 c.args.pick) (sym c.is_booted.ensures ∙ c.if-not-is_booted.true) refl in
-    answered_serves _ _ _ _ (says.Refused 9) c.args.number _ done.lines done.stays done.memory (omega arith) (λ m s. answered_refused m (Crash 0 c.args.pick) (says.Refused 9) (fresh m s))
+    answered_serves _ _ _ _ (says.Refused 9) c.args.number _ done.lines done.stays done.memory (omega arith) (λ m s. answered_refused m (Crash 0 c.args.pick) (answers.Refused 9) (fresh m s))
 
 pub returns-in_err-lines-clause-serves : goal.returns-in_err-lines-clause-serves
 returns-in_err-lines-clause-serves g c =

@@ -11,19 +11,20 @@ use Rattle.world.proofs.Quietly.{inspect_does}
 use Rattle.world.proofs.Still.{stands_still}
 use Rattle.world.proofs.Faultless.{others_rows}
 use Rattle.world.proofs.world.World.inspect.Goals as goal
+use Rattle.events.specs.declared.answer.Answer.TheVariants as answers
 
 pub returns-then-not-is_booted-clause-serves : goal.returns-then-not-is_booted-clause-serves
 returns-then-not-is_booted-clause-serves g c =
     let done = c.answered.ensures in
     let fresh = new_refuses c.args.self.now (g.M.Disk.images c.args.disk.now) (Inspect 0) (sym c.is_booted.ensures ∙ c.if-not-is_booted.true) refl in
-    answered_serves _ _ _ _ (says.Refused 9) c.args.number _ done.lines done.stays done.memory (omega arith) (λ m s. answered_refused m (Inspect 0) (says.Refused 9) (fresh m s))
+    answered_serves _ _ _ _ (says.Refused 9) c.args.number _ done.lines done.stays done.memory (omega arith) (λ m s. answered_refused m (Inspect 0) (answers.Refused 9) (fresh m s))
 
 pub returns-in_default-clause-serves : goal.returns-in_default-clause-serves
 returns-in_default-clause-serves g c =
     let done = c.answered-in_default.ensures in
     let booted = sym c.is_booted.ensures ∙ c.if-not-is_booted.false in
     let down = inspect_down c.args.self.now (g.M.Disk.images c.args.disk.now) booted (ap (λ k. k.replica) (sym c.self.view_is) ∙ c.in_default.is) in
-    answered_serves _ _ _ _ (says.Down c.args.replica) c.args.number _ done.lines done.stays done.memory (omega arith) (λ m s. answered_refused m (Inspect 0) (says.Down c.args.replica) (down m s ∙ ap (λ q. Some (says.Down q)) (sym c.requires.first)))
+    answered_serves _ _ _ _ (says.Down c.args.replica) c.args.number _ done.lines done.stays done.memory (omega arith) (λ m s. answered_refused m (Inspect 0) (answers.Down c.args.replica) (down m s ∙ ap (λ q. Some (answers.Down q)) (sym c.requires.first)))
 
 pub returns-in_err-lines-clause-serves : goal.returns-in_err-lines-clause-serves
 returns-in_err-lines-clause-serves g c =

@@ -7,12 +7,13 @@ use Rattle.world.proofs.Answered.{answered_serves, answered_refused, memory_serv
 use Rattle.world.proofs.Later.{none_of, some_of, closed_of}
 use Rattle.world.proofs.Reopening.{reboot_does, closed_still}
 use Rattle.world.proofs.world.World.reboot.Goals as goal
+use Rattle.events.specs.declared.answer.Answer.TheVariants as answers
 
 pub returns-then-not-is_booted-clause-serves : goal.returns-then-not-is_booted-clause-serves
 returns-then-not-is_booted-clause-serves g c =
     let done = c.answered.ensures in
     let fresh = new_refuses c.args.self.now (g.M.Disk.images c.args.disk.now) (Reboot 0) (sym c.is_booted.ensures ∙ c.if-not-is_booted.true) refl in
-    answered_serves _ _ _ _ (says.Refused 9) c.args.number _ done.lines done.stays done.memory (omega arith) (λ m s. answered_refused m (Reboot 0) (says.Refused 9) (fresh m s))
+    answered_serves _ _ _ _ (says.Refused 9) c.args.number _ done.lines done.stays done.memory (omega arith) (λ m s. answered_refused m (Reboot 0) (answers.Refused 9) (fresh m s))
 
 pub returns-then-is_some-clause-serves : goal.returns-then-is_some-clause-serves
 returns-then-is_some-clause-serves g c =
@@ -20,7 +21,7 @@ returns-then-is_some-clause-serves g c =
     let booted = sym c.is_booted.ensures ∙ c.if-not-is_booted.false in
     let there = some_of c.self.inside.replica (sym c.is_some.ensures ∙ c.if-is_some.true) in
     let ignored = reboot_ignored c.args.self.now (g.M.Disk.images c.args.disk.now) there.0 booted (ap (λ k. k.replica) (sym c.self.view_is) ∙ there.1) in
-    answered_serves _ _ _ _ says.IgnoredUp c.args.number _ done.lines done.stays done.memory (omega arith) (λ m s. answered_refused m (Reboot 0) says.IgnoredUp (ignored m s))
+    answered_serves _ _ _ _ says.IgnoredUp c.args.number _ done.lines done.stays done.memory (omega arith) (λ m s. answered_refused m (Reboot 0) answers.IgnoredUp (ignored m s))
 
 pub returns-in_err-self-inside-clause-serves : goal.returns-in_err-self-inside-clause-serves
 returns-in_err-self-inside-clause-serves g c =

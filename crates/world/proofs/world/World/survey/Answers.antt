@@ -8,7 +8,7 @@ use Rattle.replica.specs.declared.step.StepEvent.TheVariants as steps
 use Rattle.rc_base.specs.declared.ids.Epoch.{Epoch}
 use Rattle.rc_base.specs.declared.ids.Lsn.{Lsn}
 use Rattle.rc_base.specs.Ids.{epoch_lt}
-use Rattle.config_rule.specs.declared.answers.Answer.{Answer}
+use Rattle.config_rule.specs.declared.answers.SurveyAnswer.{SurveyAnswer}
 use Rattle.std.proofs.lemmas.Bool.Decides.{nat_tests}
 use Rattle.std.proofs.lemmas.Grind.{common_steps}
 use Rattle.world.specs.Kept.{Kept, has_booted}
@@ -19,6 +19,7 @@ use Rattle.world.proofs.Surveyed.{IsSurveyed}
 use Rattle.world.proofs.Surveying.{survey_refused, survey_down, surveyed_still, answered_in, answer_told, ignored_told, survey_answered, survey_ignored, fault_serves}
 use Rattle.world.proofs.world.World.survey.Goals as goal
 use Rattle.world.proofs.world.World.survey.Goals.{then-le+in_ok-note_answer, else-le}
+use Rattle.events.specs.declared.answer.Answer.TheVariants as answers
 
 pub returns-then-not-survey_ok-clause-serves : goal.returns-then-not-survey_ok-clause-serves
 returns-then-not-survey_ok-clause-serves g c =
@@ -26,7 +27,7 @@ returns-then-not-survey_ok-clause-serves g c =
     let rule : c.args.self.now.rule ≡ Some c.in-Some.rule = ap (λ (k : Kept). k.rule) (sym c.self.view_is) ∙ c.in-Some.is in
     let above : is_above c.in-Some.rule.appointed c.args.epoch ≡ false = sym c.survey_ok.ensures ∙ c.if-not-survey_ok.true in
     answered_serves c.args.self.now c.answered-then-not-survey_ok.new.self (g.M.Disk.images c.args.disk.now) (Survey 0 c.args.epoch) (says.Refused 1) c.args.number c.answered-then-not-survey_ok.result done.lines done.stays done.memory (omega arith)
-    (λ m s. answered_refused m (Survey 0 c.args.epoch) (says.Refused 1) (survey_refused c.args.self.now (g.M.Disk.images c.args.disk.now) c.args.epoch c.in-Some.rule rule above m s))
+    (λ m s. answered_refused m (Survey 0 c.args.epoch) (answers.Refused 1) (survey_refused c.args.self.now (g.M.Disk.images c.args.disk.now) c.args.epoch c.in-Some.rule rule above m s))
 
 pub returns-in_default-replica-clause-serves : goal.returns-in_default-replica-clause-serves
 returns-in_default-replica-clause-serves g c =
@@ -37,7 +38,7 @@ returns-in_default-replica-clause-serves g c =
     let told = subst (λ n. IfOk c.answered-in_default-replica.result (λ lines. lines ≡ says.Down n ∷ [])) c.requires.first done.lines in
     let stays = subst (λ (k : Kept). OnOk c.answered-in_default-replica.result (c.answered-in_default-replica.new.self ≡ record k { last = c.args.number })) c.self.view_is done.stays in
     answered_serves c.args.self.now c.answered-in_default-replica.new.self (g.M.Disk.images c.args.disk.now) (Survey 0 c.args.epoch) (says.Down 0) c.args.number c.answered-in_default-replica.result told stays done.memory (omega arith)
-    (λ m s. answered_refused m (Survey 0 c.args.epoch) (says.Down 0) (survey_down c.args.self.now (g.M.Disk.images c.args.disk.now) c.args.epoch c.in-Some.rule rule above none m s))
+    (λ m s. answered_refused m (Survey 0 c.args.epoch) (answers.Down 0) (survey_down c.args.self.now (g.M.Disk.images c.args.disk.now) c.args.epoch c.in-Some.rule rule above none m s))
 
 pub take_step-requires-clause-stands : goal.take_step-requires-clause-stands
 take_step-requires-clause-stands g c =
@@ -101,13 +102,13 @@ returns-clause-serves g c =
       | then-le+in_ok-note_answer w ↦
           let high : epoch_lt c.args.epoch c.fence-fence.result ≡ false = grind (arith, nat_tests, common_steps, c.le.ensures, w.if-le.true) in
           let high_there : epoch_lt c.args.epoch c.in-Some-replica.open.fence ≡ false = ap (λ (f : Epoch). epoch_lt c.args.epoch f) (sym c.fence-fence.ensures) ∙ high in
-          let answer : (let a : Answer = record { epoch = c.args.epoch; from = c.args.replica; last_epoch = c.epoch-last_epoch.result; last = c.last-last.result } in a) ≡ record { epoch = c.args.epoch; from = 0; last_epoch = c.in-Some-replica.open.epoch; last = c.in-Some-replica.open.last } =
-          ap (λ (n : ℕ). let a : Answer = record { epoch = c.args.epoch; from = n; last_epoch = c.epoch-last_epoch.result; last = c.last-last.result } in a) c.requires.first
-          ∙ (ap (λ (f : Epoch). let a : Answer = record { epoch = c.args.epoch; from = 0; last_epoch = f; last = c.last-last.result } in a) c.epoch-last_epoch.ensures
-          ∙ ap (λ (l : Lsn). let a : Answer = record { epoch = c.args.epoch; from = 0; last_epoch = c.in-Some-replica.open.epoch; last = l } in a) c.last-last.ensures) in
+          let answer : (let a : SurveyAnswer = record { epoch = c.args.epoch; from = c.args.replica; last_epoch = c.epoch-last_epoch.result; last = c.last-last.result } in a) ≡ record { epoch = c.args.epoch; from = 0; last_epoch = c.in-Some-replica.open.epoch; last = c.in-Some-replica.open.last } =
+          ap (λ (n : ℕ). let a : SurveyAnswer = record { epoch = c.args.epoch; from = n; last_epoch = c.epoch-last_epoch.result; last = c.last-last.result } in a) c.requires.first
+          ∙ (ap (λ (f : Epoch). let a : SurveyAnswer = record { epoch = c.args.epoch; from = 0; last_epoch = f; last = c.last-last.result } in a) c.epoch-last_epoch.ensures
+          ∙ ap (λ (l : Lsn). let a : SurveyAnswer = record { epoch = c.args.epoch; from = 0; last_epoch = c.in-Some-replica.open.epoch; last = l } in a) c.last-last.ensures) in
           let noted = ap (λ (k : Kept). record k { last = c.args.number }) (c.self-2.view_is ∙ (w.self-is ∙ w.in_ok-note_answer.ensures)) in
           let kept = noted
-          ∙ (ap (λ (a : Answer). let k : Kept = record { last = c.args.number; rule = option_map (λ known. after_answer known a) c.self.inside.rule; order = c.self.inside.order; replica = Some c.take_step.new.opened } in k) answer
+          ∙ (ap (λ (a : SurveyAnswer). let k : Kept = record { last = c.args.number; rule = option_map (λ known. after_answer known a) c.self.inside.rule; order = c.self.inside.order; replica = Some c.take_step.new.opened } in k) answer
           ∙ (ap (λ (o : Option Known). let k : Kept = record { last = c.args.number; rule = option_map (λ known. after_answer known (record { epoch = c.args.epoch; from = 0; last_epoch = c.in-Some-replica.open.epoch; last = c.in-Some-replica.open.last })) o; order = c.self.inside.order; replica = Some c.take_step.new.opened } in k) c.in-Some.is
           ∙ ap (λ (k : Kept). answered_in k c.args.number c.in-Some.rule c.args.epoch c.in-Some-replica.open c.take_step.new.opened) c.self.view_is)) in
           survey_answered c.args.self.now _ (g.M.Disk.images c.args.disk.now) (g.M.Disk.images c.take_step.new.disk) c.args.epoch c.in-Some.rule c.in-Some-replica.open c.take_step.new.opened c.args.number c.take_step.new.lines rule above some (omega arith) high_there st kept
