@@ -15,7 +15,7 @@ use Rattle.fleet_laws.proofs.After.{after_self, sound_from, live_before, key_aft
 use Rattle.fleet_laws.proofs.Puts.{put_at, only_member, first_member, frozen_role, frozen_above, may_before}
 
 module _ {R : Type 0} (f : Fleet R) (r e l : ℕ) (v : Value R) (i : Invariant f) (a : Acknowledges f r e l v) where
-  new_number : (q d : ℕ) → ((q ≡ r) × (d ≡ e) × ((acknowledged f r e l).acknowledged q d ≡ max (f.acknowledged r e) l)) ⊎ ((q ≡ r → d ≡ e → ⊥) × ((acknowledged f r e l).acknowledged q d ≡ f.acknowledged q d))
+  pub new_number : (q d : ℕ) → ((q ≡ r) × (d ≡ e) × ((acknowledged f r e l).acknowledged q d ≡ max (f.acknowledged r e) l)) ⊎ ((q ≡ r → d ≡ e → ⊥) × ((acknowledged f r e l).acknowledged q d ≡ f.acknowledged q d))
   new_number q d = put_at r e (max (f.acknowledged r e) l) f.acknowledged q d
 
   rises : (q d : ℕ) → f.acknowledged q d ≤ (acknowledged f r e l).acknowledged q d

@@ -24,7 +24,7 @@ module _ {R : Type 0} (f : Fleet R) (r : ℕ) (values : List (Value R)) (role co
   value_cases : (q : ℕ) (w : Value R) → IsValueOf g q w → ((q ≡ r) × Contains values w) ⊎ ((q ≡ r → ⊥) × IsValueOf f q w)
   value_cases q w c = put_split (λ vs. Contains vs w) r values f.values q c
 
-  role_cases : (q : ℕ) → (g.role q ≡ 0) ⊎ (g.role q ≡ f.role q)
+  pub role_cases : (q : ℕ) → (g.role q ≡ 0) ⊎ (g.role q ≡ f.role q)
   role_cases q = elim (cases_eq q r) [
     | inl is ↦ elim (a.keeps_role) [
       | inl none ↦ inl (put_same r role f.role q is ∙ none)

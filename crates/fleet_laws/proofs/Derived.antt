@@ -1,18 +1,20 @@
 -- What follows from the invariant.
 use Rattle.std.proofs.Common.{◌≡◌, ℕ, zero, suc, ◌<◌, ◌≤◌, Bool, true, ◌⊎◌, List, length, take, refl, ap, sym, ◌∙◌, subst, arith, inl, inr}
-use Rattle.std.proofs.lemmas.Bool.{cases_order, cases_lt}
+use Rattle.std.proofs.lemmas.Bool.{cases_order, cases_lt, leb-true, le-leb}
 use Rattle.std.proofs.lemmas.List.{take_all, length-take-le}
 use mathlib.Core.List.{IsPrefix}
 use Rattle.fleet_laws.specs.Counting.{IsWriteQuorum}
-use Rattle.fleet_laws.specs.Logs.{Entry, Agree, LastAgreed, IsMarked, epoch_at, content_at}
+use Rattle.fleet_laws.specs.Logs.{Entry, Agree, LastAgreed, IsMarked, epoch_at, content_at, last_epoch}
 use Rattle.fleet_laws.specs.Logs.Record.{EpochStart, Barrier}
 use Rattle.fleet_laws.specs.Fleets.{Value, Fleet, IsAppointed, IsValueOf}
 use Rattle.fleet_laws.specs.Choice.{IsChosen, IsSafe, IsCanonical, reaches}
 use Rattle.fleet_laws.specs.Invariant.{IsBranch, IsSound, IsCopied, Invariant}
+use Rattle.fleet_laws.specs.Growth.{ComesAfter}
 use Rattle.fleet_laws.specs.Moves.{Turn, Copies}
 use Rattle.fleet_laws.specs.Moves.Turn.{stays, follows, logs, raises, learns, forgets, rebases, undoes, jumps}
 use Rattle.fleet_laws.proofs.Agreement.{agree_self, agree_sym, agree_trans, agree_less, agree_take, agree_epoch, agree_content}
-use Rattle.fleet_laws.proofs.Tree.{epoch_at-zero, same_epoch_agree, begins_canonical, history_canonical, history_rises, past_start, epochs_rise}
+use Rattle.fleet_laws.proofs.Tree.{epoch_at-zero, same_epoch_agree, begins_canonical, history_canonical, history_rises, past_start, epochs_rise, agrees_with_history}
+use Rattle.fleet_laws.proofs.After.{after_self}
 use Rattle.fleet_laws.proofs.Use.{chosen_may, chosen_holds, own_quorum, safe_in_later}
 use Rattle.fleet_laws.proofs.Copying.{safe_length, stable_agrees, part_below, shared}
 use Rattle.fleet_laws.proofs.Appointing.{start_is_no_barrier}
@@ -99,13 +101,19 @@ module _ {R : Type 0} (f : Fleet R) (i : Invariant f) where
     | inr (inr gt) ↦ (let x = chosen_begins_later e d m ae ad gt k in inr (agree_begins m l (f.history e) (f.history d) (omega (arith, x.0, c.from)) x.1))
   ]
 
-  pub chosen_is_held : (e l : ℕ) → IsAppointed f e → IsChosen f e l
-      → (p : ℕ → Bool) × IsWriteQuorum p (f.current f.active) × ((m : ℕ) → p m ≡ true → (v : Value R) → IsValueOf f m v → Agree l (f.history e) v.log)
-  chosen_is_held e l a c = elim (cases_lt e f.active) [
+  -- whoever has acknowledged what is chosen holds it later too
+  holds_later : (g : Fleet R) → Invariant g → ComesAfter f g → (e l : ℕ) → IsAppointed f e → IsChosen f e l → (m : ℕ) → reaches f.acknowledged e l m ≡ true
+      → (v : Value R) → IsValueOf g m v → Agree l (g.history e) v.log
+  holds_later g j after e l a c m t v is = chosen_holds g j e l (after.appointed e a) (after.chosen e l a c) m
+      (le-leb l (g.acknowledged m e) (omega (arith, leb-true l (f.acknowledged m e) t, after.acknowledged m e))) v is
+
+  pub held_later : (g : Fleet R) → Invariant g → ComesAfter f g → (e l : ℕ) → IsAppointed f e → IsChosen f e l
+      → (p : ℕ → Bool) × IsWriteQuorum p (f.current f.active) × ((m : ℕ) → p m ≡ true → (v : Value R) → IsValueOf g m v → Agree l (g.history e) v.log)
+  held_later g j after e l a c = elim (cases_lt e f.active) [
     | inr recent ↦ (
       reaches f.acknowledged e l,
       active_quorum f i.appointments (reaches f.acknowledged e l) e a recent c.by,
-      λ m t v is. chosen_holds f i e l a c m t v is,
+      λ m t v is. holds_later g j after e l a c m t v is,
     )
     | inl old ↦ (
         let is_active = i.appointments.is_active e a in
@@ -113,13 +121,39 @@ module _ {R : Type 0} (f : Fleet R) (i : Invariant f) where
         elim (i.appointments.chosen f.active is_active) [
           | inl is ↦ absurd (omega (arith, is, old, i.appointments.founder e a))
           | inr k ↦ (
-              let x = chosen_begins_later e f.active l a aa old c in (
+              let x = j.key e f.active l (after.appointed e a) (after.appointed f.active aa) old (chosen_may g e l (after.chosen e l a c)) in (
                 reaches f.acknowledged f.active (f.start f.active),
                 own_quorum (reaches f.acknowledged f.active (f.start f.active)) f.configurations f.active k.by,
-                λ m t v is. agree_trans x.1 (agree_less l (f.start f.active) (f.history f.active) v.log (omega (arith, x.0)) (chosen_holds f i f.active (f.start f.active) aa k m t v is)),
+                λ m t v is. agree_trans x.1 (agree_less l (f.start f.active) (g.history f.active) v.log (omega (arith, x.0, after.start f.active aa))
+                    (holds_later g j after f.active (f.start f.active) aa k m t v is)),
               ))
         ])
   ]
+
+  pub chosen_is_held : (e l : ℕ) → IsAppointed f e → IsChosen f e l
+      → (p : ℕ → Bool) × IsWriteQuorum p (f.current f.active) × ((m : ℕ) → p m ≡ true → (v : Value R) → IsValueOf f m v → Agree l (f.history e) v.log)
+  chosen_is_held e l a c = held_later f i (after_self f) e l a c
+
+  -- what a later history has after an EpochStart that is chosen and alone is of no epoch up to that one
+  pub after_idle_start : (d e : ℕ) → IsAppointed f d → IsAppointed f e → d < e → IsChosen f d (f.start d) → length (f.history d) ≡ f.start d
+      → (n : ℕ) → f.start d < n → n ≤ length (f.history e) → d < epoch_at (f.history e) n
+  after_idle_start d e ad ae lt c idle n past w =
+      let b : IsBranch f.histories d = i.branches d ad in
+      let x = chosen_begins_later d e (f.start d) ad ae lt c in
+      let t = history_canonical f.histories i.branches e ae n (omega (arith, past)) w in
+      elim (cases_order t.0 d) [
+        | inl is ↦ absurd (let in_ : n ≤ length (f.history d) = subst (λ y. n ≤ length (f.history y)) is t.1.agree.right in omega (arith, in_, idle, past))
+        | inr (inl low) ↦ absurd (
+            let g : Agree (f.start d) (f.history d) (f.history t.0) = agree_trans x.1 (agree_less (f.start d) n (f.history e) (f.history t.0) (omega (arith, past)) t.1.agree) in
+            omega (arith, low, b.own (f.start d) (omega arith) b.within, agree_epoch (f.start d) (f.start d) (f.history d) (f.history t.0) (omega arith) g, history_rises f.histories i.branches t.0 t.1.appointed (f.start d) g.right))
+        | inr (inr high) ↦ omega (arith, high, t.1.is)
+      ]
+
+  pub fenced_begins : (r e : ℕ) (v : Value R) → IsValueOf f r v → IsAppointed f e → v.fence ≤ e → f.start e ≤ length v.log → epoch_at v.log (f.start e) ≡ e → Agree (length v.log) v.log (f.history e)
+  fenced_begins r e v c a le from at =
+      let s : IsSound f r v = i.values r v c in
+      let last : last_epoch v.log ≡ e = omega (arith, at, le, s.fenced, epochs_rise f.histories i.branches v.log s.canonical (f.start e) (length v.log) from (omega arith)) in
+      agrees_with_history f.histories i.branches v.log s.canonical e (length v.log) (omega (arith, from, (i.branches e a).starts)) (omega arith) last
 
   pub stable_begins_later : (r e : ℕ) (v : Value R) → IsValueOf f r v → IsAppointed f e → v.fence ≤ e → Agree v.stable v.log (f.history e)
   stable_begins_later r e v c a le =

@@ -21,3 +21,5 @@ pub mod Derived
 pub mod Ordering
 pub mod Running
 pub mod Copies
+pub mod Roles
+pub mod Extents

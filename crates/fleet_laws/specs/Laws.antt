@@ -38,6 +38,14 @@ QuorumNumberIsChosen R = (f : Fleet R) (e : ℕ) (reached : ℕ → ℕ) (n l : 
     → IsQuorumNumber reached (configurations_of f.configurations e) n ⊎ IsQuorumNumber reached (f.previous e ∷ f.current e ∷ []) n
     → f.start e ≤ l → l ≤ n → IsChosen f e l
 
+-- no two replicas are primaries of one epoch
+abbrev pub OnePrimary : Type 0 → Type 0
+OnePrimary R = (f : Fleet R) → IsReached f → (r q e : ℕ) → 1 ≤ e → f.role r ≡ e → f.role q ≡ e → r ≡ q
+
+-- what a replica has acknowledged is of an appointed epoch, and no further than its history goes
+abbrev pub AcknowledgedWithin : Type 0 → Type 0
+AcknowledgedWithin R = (f : Fleet R) → IsReached f → (r e : ℕ) → 1 ≤ f.acknowledged r e → IsAppointed f e × (f.acknowledged r e ≤ length (f.history e))
+
 -- any two logs anywhere that have one epoch at a place are one up to it
 abbrev pub SamePrefix : Type 0 → Type 0
 SamePrefix R = (f : Fleet R) → IsReached f → (r q : ℕ) (v w : Value R) → IsValueOf f r v → IsValueOf f q w
@@ -87,6 +95,20 @@ ChosenAreOne R = (f : Fleet R) → IsReached f → (d e l m : ℕ) → IsAppoint
     → (IsPrefix (take l (f.history d)) (take m (f.history e)) ⊎ IsPrefix (take m (f.history e)) (take l (f.history d)))
     × (d < e → (l < f.start e) × Agree l (f.history d) (f.history e))
 
+-- an epoch is closed once a later one is appointed: whatever is chosen at it, however late, stands below the later EpochStart
+abbrev pub ClosedEpochs : Type 0 → Type 0
+ClosedEpochs R = (f : Fleet R) → IsReached f → (d e l : ℕ) → IsAppointed f d → IsAppointed f e → d < e → IsChosen f d l → l < f.start e
+
+-- where an epoch has logged nothing but its EpochStart, and that is chosen, all that a later history has after it is of later epochs
+abbrev pub AfterAnIdleStart : Type 0 → Type 0
+AfterAnIdleStart R = (f : Fleet R) → IsReached f → (d e : ℕ) → IsAppointed f d → IsAppointed f e → d < e → IsChosen f d (f.start d) → length (f.history d) ≡ f.start d
+    → (n : ℕ) → f.start d < n → n ≤ length (f.history e) → d < epoch_at (f.history e) n
+
+-- a log that has the EpochStart of an epoch that isn't below its fence is a beginning of that epoch's history, also where nothing of it is stable
+abbrev pub FencedIsBeginning : Type 0 → Type 0
+FencedIsBeginning R = (f : Fleet R) → IsReached f → (r e : ℕ) (v : Value R) → IsValueOf f r v → IsAppointed f e → v.fence ≤ e → f.start e ≤ length v.log
+    → epoch_at v.log (f.start e) ≡ e → Agree (length v.log) v.log (f.history e)
+
 -- what is stable in a value begins the history of each epoch that isn't below its fence
 abbrev pub StableBeginsLater : Type 0 → Type 0
 StableBeginsLater R = (f : Fleet R) → IsReached f → (r e : ℕ) (v : Value R) → IsValueOf f r v → IsAppointed f e → v.fence ≤ e → Agree v.stable v.log (f.history e)
@@ -95,6 +117,11 @@ StableBeginsLater R = (f : Fleet R) → IsReached f → (r e : ℕ) (v : Value R
 abbrev pub ChosenIsHeld : Type 0 → Type 0
 ChosenIsHeld R = (f : Fleet R) → IsReached f → (e l : ℕ) → IsAppointed f e → IsChosen f e l
     → (p : ℕ → Bool) × IsWriteQuorum p (f.current f.active) × ((m : ℕ) → p m ≡ true → (v : Value R) → IsValueOf f m v → Agree l (f.history e) v.log)
+
+-- what was chosen is held in every later fleet too, by each of a write quorum of the configuration that was the last activated then, whoever is a member by now
+abbrev pub HeldLater : Type 0 → Type 0
+HeldLater R = (f g : Fleet R) → IsReached f → Run f g → (e l : ℕ) → IsAppointed f e → IsChosen f e l
+    → (p : ℕ → Bool) × IsWriteQuorum p (f.current f.active) × ((m : ℕ) → p m ≡ true → (v : Value R) → IsValueOf g m v → Agree l (g.history e) v.log)
 
 -- what a primary shows lengthens the order, or is a beginning of it
 abbrev pub OrderOnlyGrows : Type 0 → Type 0 → Type 0

@@ -4,7 +4,7 @@
 
 ghost use Rattle.fleet_laws.specs.Fleets.{empty_fleet};
 ghost use Rattle.fleet_laws.specs.Invariant.{Invariant};
-ghost use Rattle.fleet_laws.specs.Laws.{BarriersAreSafe, CanonicalStays, ChosenAreOne, ChosenIsHeld, ChosenStays, CodesKeepOrder, CopyKeepsStable, CopyModeIsRight, HasQuorumNumber, LaterEpochsHaveIt, LogsAreMarked, LogsAreOfHistories, MovesKeepInvariant, OrderIsHeld, OrderOnlyGrows, PrimaryHasWhatMayBeChosen, QuorumNumberIsChosen, QuorumNumberOfTwo, QuorumsMeet, RunsKeepInvariant, SafeStays, SamePrefix, SomeRunUndoes, StableBeginsLater, TurnsKeepViews, UndoKeepsStable, ViewsBeginOrder};
+ghost use Rattle.fleet_laws.specs.Laws.{AcknowledgedWithin, AfterAnIdleStart, BarriersAreSafe, CanonicalStays, ChosenAreOne, ChosenIsHeld, ChosenStays, ClosedEpochs, CodesKeepOrder, CopyKeepsStable, CopyModeIsRight, FencedIsBeginning, HasQuorumNumber, HeldLater, LaterEpochsHaveIt, LogsAreMarked, LogsAreOfHistories, MovesKeepInvariant, OnePrimary, OrderIsHeld, OrderOnlyGrows, PrimaryHasWhatMayBeChosen, QuorumNumberIsChosen, QuorumNumberOfTwo, QuorumsMeet, RunsKeepInvariant, SafeStays, SamePrefix, SomeRunUndoes, StableBeginsLater, TurnsKeepViews, UndoKeepsStable, ViewsBeginOrder};
 
 /// The numbers that stand for epochs are ordered as the epochs are: by loss, then by number.
 pub fn codes_keep_order()
@@ -44,6 +44,16 @@ pub fn moves_keep<R>()
 /// The invariant holds after every run.
 pub fn runs_keep<R>()
     ensures { RunsKeepInvariant R }
+{}
+
+/// No two replicas are primaries of one epoch.
+pub fn one_primary<R>()
+    ensures { OnePrimary R }
+{}
+
+/// What a replica has acknowledged is within the history of an appointed epoch.
+pub fn acknowledged_within<R>()
+    ensures { AcknowledgedWithin R }
 {}
 
 /// Any two logs anywhere that have one epoch at a place are one up to it.
@@ -96,6 +106,21 @@ pub fn chosen_are_one<R>()
     ensures { ChosenAreOne R }
 {}
 
+/// Whatever is chosen at an epoch stands below the EpochStart of each later one.
+pub fn closed_epochs<R>()
+    ensures { ClosedEpochs R }
+{}
+
+/// All that later histories have after the EpochStart of an epoch that logged nothing else is of later epochs.
+pub fn after_an_idle_start<R>()
+    ensures { AfterAnIdleStart R }
+{}
+
+/// A log that has the EpochStart of an epoch that is not below its fence begins the history of that epoch.
+pub fn fenced_is_beginning<R>()
+    ensures { FencedIsBeginning R }
+{}
+
 /// What is stable in a value begins the history of each epoch that is not below its fence.
 pub fn stable_begins_later<R>()
     ensures { StableBeginsLater R }
@@ -105,6 +130,12 @@ pub fn stable_begins_later<R>()
 /// last activated.
 pub fn chosen_is_held<R>()
     ensures { ChosenIsHeld R }
+{}
+
+/// What was chosen is held in every later fleet, by each of a write quorum of the configuration that was the last
+/// activated then.
+pub fn held_later<R>()
+    ensures { HeldLater R }
 {}
 
 /// What a primary shows lengthens the one order, or is a beginning of it.
