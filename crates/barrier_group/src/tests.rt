@@ -1,5 +1,5 @@
 use super::*;
-use disk_model::{CrashDisk, Disk, LOG0, MemDisk, read_all};
+use disk_model::{CrashDisk, Disk, LOG0, MemDisk};
 use gated_log::{GatedLog, LogError};
 use log_records::{Physical, Record, physical_fits};
 use rc_base::{Epoch, Lsn, NoMemory};
@@ -7,10 +7,10 @@ use std::alloc::Global;
 use std::process::Abort;
 use std::test::*;
 
-const FENCE: [u8; 9] = [2, 0, 0, 0, 0, 0, 0, 0, 2];
-
-const BARRIER: [u8; 26] = [
-    1, 0, 0, 0, 0, 0, 0, 0, 7, 0, 0, 0, 0, 0, 0, 0, 1, 19, 0, 0, 0, 0, 0, 0, 0, 6,
+// The spelling of a fence, and after it that of a barrier.
+const TWO: [u8; 35] = [
+    2, 0, 0, 0, 0, 0, 0, 0, 2, 1, 0, 0, 0, 0, 0, 0, 0, 7, 0, 0, 0, 0, 0, 0, 0, 1, 19, 0, 0, 0, 0,
+    0, 0, 0, 6,
 ];
 
 fn fence() -> Physical {
@@ -50,76 +50,115 @@ fn has_two(group: &Group) -> bool {
     }
 }
 
-// Whether the payload is that of a fence and a barrier.
-fn is_payload_of_two(payload: &[u8]) -> bool {
-    payload.len() == 35 && payload[..9] == FENCE[..] && payload[9..] == BARRIER[..]
-}
-
-#[test]
-fn a_group_is_one_block(rt: HostRuntime) -> Result<(), Fail> {
-    let alloc = rt.alloc();
-    let mut disk = MemDisk::new(alloc);
-    let (mut log, _blocks) = GatedLog::mount(alloc, &mut disk, LOG0)?;
-    let mut group = two(alloc)?;
-    assert!(rt; has_two(&group));
-    assert_eq!(rt; group.payload_len(), 35);
-    group.flush(&mut log, &mut disk)?;
-    assert!(rt; group.is_empty());
-    assert_eq!(rt; group.payload_len(), 0);
-    let (_log, blocks) = GatedLog::mount(alloc, &mut disk, LOG0)?;
-    assert_eq!(rt; blocks.as_slice().len(), 1);
-    match blocks.as_slice() {
-        [block] => assert!(rt; is_payload_of_two(block.payload.as_slice())),
-        _ => panic!(rt; "one block"),
+fn flush(alloc: Global, disk: &mut MemDisk, group: &mut Group) -> Result<(), LogError> {
+    let (mut log, _blocks) = GatedLog::mount(alloc, disk, LOG0)?;
+    if group.payload_len() <= 1_048_576 {
+        group.flush(&mut log, disk)?;
     }
     Ok(())
 }
 
+fn flush_two(rt: &impl Abort, alloc: Global, disk: &mut MemDisk) -> Result<(), LogError> {
+    let mut group = two(alloc)?;
+    assert!(rt; has_two(&group) && group.payload_len() == 35);
+    flush(alloc, disk, &mut group)?;
+    assert!(rt; group.is_empty() && group.payload_len() == 0);
+    Ok(())
+}
+
+// How many blocks the log has, and whether each has the payload of a fence and a barrier.
+fn count_blocks(alloc: Global, disk: &mut MemDisk) -> Result<(usize, bool), LogError> {
+    let (_log, blocks) = GatedLog::mount(alloc, disk, LOG0)?;
+    let mut same = true;
+    for block in blocks.as_slice() {
+        same &= block.payload.as_slice() == TWO.as_slice();
+    }
+    Ok((blocks.as_slice().len(), same))
+}
+
+#[test]
+fn a_group_is_one_block(rt: HostRuntime) -> Result<(), Fail> {
+    let mut disk = MemDisk::new(rt.alloc());
+    flush_two(&rt, rt.alloc(), &mut disk)?;
+    assert_eq!(rt; count_blocks(rt.alloc(), &mut disk)?, (1, true));
+    Ok(())
+}
+
+// A group with no record is flushed to a log whose disk fails at its next call.
+fn flush_none(alloc: Global, disk: &mut MemDisk) -> Result<(), LogError> {
+    let (mut log, _blocks) = GatedLog::mount(alloc, disk, LOG0)?;
+    disk.arm(1);
+    Group::new(alloc).flush(&mut log, disk)
+}
+
 #[test]
 fn an_empty_group_makes_no_call(rt: HostRuntime) -> Result<(), Fail> {
-    let alloc = rt.alloc();
-    let mut disk = MemDisk::new(alloc);
-    let (mut log, _blocks) = GatedLog::mount(alloc, &mut disk, LOG0)?;
-    disk.arm(1);
-    let mut group = Group::new(alloc);
-    assert_eq!(rt; group.flush(&mut log, &mut disk), Ok(()));
+    let mut disk = MemDisk::new(rt.alloc());
+    flush_none(rt.alloc(), &mut disk)?;
     assert_eq!(rt; disk.len(LOG0).is_err(), true);
     Ok(())
 }
 
-// A flush that is stopped at one of its device calls, counted from 0, leaves the group as before and this many blocks.
+// What flushes answer of which the first is stopped at one of its device calls, counted from 0: that one, the next,
+// and one of a group with no record.
+type Answers = [Result<(), LogError>; 3];
+
+fn flush_stopped(
+    alloc: Global,
+    disk: &mut MemDisk,
+    group: &mut Group,
+    call: u8,
+) -> Result<Answers, LogError> {
+    let (mut log, _blocks) = GatedLog::mount(alloc, disk, LOG0)?;
+    if group.payload_len() != 35 {
+        return Ok([Ok(()); 3]);
+    }
+    disk.arm(u64::from(call) + 1);
+    match group.flush(&mut log, disk) {
+        Ok(()) => Ok([Ok(()); 3]),
+        Err(e) => {
+            let again = group.flush(&mut log, disk);
+            Ok([Err(e), again, Group::new(alloc).flush(&mut log, disk)])
+        }
+    }
+}
+
+// A flush that is stopped leaves the group as before.
+fn stop_two(rt: &impl Abort, alloc: Global, disk: &mut MemDisk, call: u8) -> Result<(), LogError> {
+    let mut group = two(alloc)?;
+    let answers = flush_stopped(alloc, disk, &mut group, call)?;
+    assert!(rt; answers == [Err(LogError::Disk), Err(LogError::Closed), Ok(())]);
+    assert!(rt; has_two(&group) && group.payload_len() == 35);
+    Ok(())
+}
+
+// It leaves this many blocks.
 fn expect_stopped(
     rt: &impl Abort,
     alloc: Global,
     call: u8,
     pick: u8,
     kept: usize,
-) -> Result<(), Fail> {
+) -> Result<(), LogError> {
     let mut disk = MemDisk::new(alloc);
-    let (mut log, _blocks) = GatedLog::mount(alloc, &mut disk, LOG0)?;
-    let mut group = two(alloc)?;
-    disk.arm(u64::from(call) + 1);
-    assert_eq!(rt; group.payload_len(), 35);
-    assert_eq!(rt; group.flush(&mut log, &mut disk), Err(LogError::Disk));
-    assert!(rt; has_two(&group));
-    assert_eq!(rt; group.payload_len(), 35);
-    assert_eq!(rt; group.flush(&mut log, &mut disk), Err(LogError::Closed));
-    assert_eq!(rt; Group::new(alloc).flush(&mut log, &mut disk), Ok(()));
+    stop_two(rt, alloc, &mut disk, call)?;
     disk.crash(u64::from(pick));
-    let (_log, blocks) = GatedLog::mount(alloc, &mut disk, LOG0)?;
-    assert_eq!(rt; blocks.as_slice().len(), kept);
+    assert_eq!(rt; count_blocks(alloc, &mut disk)?, (kept, true));
+    Ok(())
+}
+
+fn expect_all_stopped(rt: &impl Abort, alloc: Global) -> Result<(), LogError> {
+    for call in 0..4u8 {
+        for pick in 0..3u8 {
+            let kept = if call >= 2 && pick == 1 { 1 } else { 0 };
+            expect_stopped(rt, alloc, call, pick, kept)?;
+        }
+    }
     Ok(())
 }
 
 #[test]
 fn a_stopped_flush_leaves_all_or_nothing(rt: HostRuntime) -> Result<(), Fail> {
-    let alloc = rt.alloc();
-    for pick in 0..3u8 {
-        expect_stopped(&rt, alloc, 0, pick, 0)?;
-        expect_stopped(&rt, alloc, 1, pick, 0)?;
-        let kept = if pick == 1 { 1 } else { 0 };
-        expect_stopped(&rt, alloc, 2, pick, kept)?;
-        expect_stopped(&rt, alloc, 3, pick, kept)?;
-    }
+    expect_all_stopped(&rt, rt.alloc())?;
     Ok(())
 }

@@ -1,4 +1,5 @@
 pub mod Areas
 pub mod Bytes
 pub mod Images
+pub mod Keeping
 pub mod Steps

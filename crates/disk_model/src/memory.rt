@@ -1,9 +1,10 @@
 // A disk in memory, which can be made to fail at any call and to be left with some image.
-ghost use Rattle.std.specs.Prelude.{◌≡◌, ◌≢◌, if◌then◌else◌, ◌-◌, ◌+◌, ◌^◌, ◌≤◌, ◌<◌, ℕ, [], ◌∷◌, ◌++◌, length, take, drop, true, false, Bool, Option, Some, None, Ok, Err, IsTrue, OnOk, OnErr, IfOk, IsErrOf, ◌||◌, nat_eq, vec_capacity, vec_len, refl};
+ghost use Rattle.std.specs.Prelude.{◌≡◌, ◌≢◌, if◌then◌else◌, ◌-◌, ◌+◌, ◌^◌, ◌≤◌, ◌<◌, ℕ, [], ◌∷◌, ◌++◌, length, take, drop, true, false, Bool, Option, Some, None, Ok, Err, IsTrue, OnOk, OnErr, IfOk, IsErrOf, ◌||◌, nat_eq, nat_le, vec_capacity, vec_len, refl, ◌⊎◌};
 ghost use Rattle.std.specs.Option.{ForSome, option_map};
 ghost use Rattle.rc_base.specs.Counts.{Counted, Rose};
-ghost use Rattle.disk_model.specs.Disk.{written, with_area, Torn, Cut, Changes, Follows, Within, Only, IsRead, Stays, Marks, after_arm, after_stop, nearer, Turns};
+ghost use Rattle.disk_model.specs.Disk.{written, with_area, Torn, Cut, Changes, Follows, Within, Only, IsRead, Stays, Marks, after_arm, after_stop, nearer, counted_up, Turns};
 ghost use Rattle.disk_model.specs.Changes.{held, room, done, reach, images_of, left_by, left_of, end_of, MayLeave};
+ghost use Rattle.disk_model.specs.Kept.{is_spent, faults_after, after_call, after_sync, after_change, after_write, after_arming, after_crash, kept_at_first};
 ghost use Rattle.disk_model.specs.Laws.{seen_is_one, each_fits};
 ghost use Rattle.disk_model.specs.declared.disk.DiskError.TheVariants.{Failed, NoMemory};
 
@@ -41,6 +42,8 @@ pub struct MemDisk {
 }
 
 impl MemDisk {
+    ghost use Rattle.disk_model.specs.KeptBy.{kept_by};
+
     /// An empty disk, which isn't armed. It takes no memory.
     pub fn new(alloc: Global) -> MemDisk
         ensures empty { ⟦<MemDisk as Disk>⟧.seen result ≡ Some (λ _. []) }
@@ -48,6 +51,7 @@ impl MemDisk {
         ensures faults { ⟦<MemDisk as Disk>⟧.faults result ≡ 0 }
         ensures marks { ⟦<MemDisk as Disk>⟧.marks result ≡ record { arms = 0; stops = 0; last = 0 } }
         ensures unarmed { ⟦<MemDisk as Disk>⟧.calls_left result ≡ None }
+        ensures kept { kept_by result ≡ kept_at_first }
     {
         MemDisk {
             alloc,
@@ -78,12 +82,14 @@ impl MemDisk {
         requires { end_of change.edit < 2 ^ 63 }
         ensures done { OnOk result (held self.new.shown ≡ with_area change.area (left_of change.edit 1) (held self.old.shown)) }
         ensures stop { Follows (Changes change.area (MayLeave change.edit)) (images_of self.old.pending.items (held self.old.synced) (held self.old.shown)) (images_of self.new.pending.items (held self.new.synced) (held self.new.shown)) }
-        ensures synced { held self.new.synced ≡ held self.old.synced }
-        ensures pending { ¬ IsErrOf result NoMemory → self.new.pending.items ≡ (if self.old.failed then self.old.pending.items else self.old.pending.items ++ change ∷ []) }
+        ensures kept { ¬ IsErrOf result NoMemory → kept_by self.new ≡ after_change change (kept_by self.old) }
+        ensures no_memory { IsErrOf result NoMemory → kept_by self.new ≡ kept_by self.old }
         ensures memory { IsErrOf result NoMemory → (held self.new.shown ≡ held self.old.shown) × (self.new.pending.items ≡ self.old.pending.items) × (self.new.faults ≡ self.old.faults) }
         ensures cause { Counted self.old.faults self.new.faults (IsErrOf result Failed) }
         ensures marks { (self.new.arms ≡ self.old.arms) × (self.new.stops ≡ self.old.stops) × (self.new.last ≡ self.old.last) }
         ensures turn { Turns self.old.calls_left self.new.calls_left result }
+        ensures refused { IsErrOf result Failed → self.old.calls_left ≡ Some 0 }
+        ensures faults { self.new.faults ≡ faults_after result self.old.faults }
     {
         if self.failed {
             return Err(fault(&mut self.faults));
@@ -109,7 +115,7 @@ impl MemDisk {
 // Counts a call of the disk, and tells whether it is done. Where it isn't, an armed call has failed.
 fn take_turn(calls_left: &mut Option<u64>, failed: &mut bool) -> bool
     ensures counts { calls_left.new ≡ option_map (λ n. n - 1) calls_left.old }
-    ensures does { result ≡ true → (calls_left.old ≢ Some 0) × (failed.new ≡ failed.old) }
+    ensures does { result ≡ true → (calls_left.old ≢ Some 0) × (failed.new ≡ failed.old) × (is_spent calls_left.old ≡ false) }
     ensures fails { result ≡ false → (calls_left.old ≡ Some 0) × (failed.new ≡ true) }
 {
     match calls_left {
@@ -130,6 +136,7 @@ fn fault(faults: &mut u64) -> DiskError
     ensures failed { result ≡ Failed }
     ensures rose { Rose faults.old faults.new }
     ensures later { faults.old ≤ faults.new }
+    ensures one_more { faults.new ≡ counted_up faults.old }
 {
     *faults = faults.saturating_add(1);
     DiskError::Failed
@@ -180,7 +187,7 @@ fn copy_from(bytes: &[u8], at: u64, buf: &mut [u8]) -> usize
 }
 
 impl Disk for MemDisk {
-    ghost use Rattle.disk_model.specs.Kept.{shown_areas, synced_areas, pending_changes, with_change};
+    ghost use Rattle.disk_model.specs.KeptBy.{kept_by};
     ghost use Rattle.disk_model.specs.declared.change.Edit.TheVariants.{Write, Shorten};
 
     ghost seen = { λ m. Some (held m.shown) };
@@ -197,14 +204,42 @@ impl Disk for MemDisk {
 
     ghost area_fits = { λ m s is a. each_fits m.shown s is a };
 
-    fn read_at(&mut self, area: Area, at: u64, buf: &mut [u8]) -> Result<usize, DiskError> {
+    fn read_at(&mut self, area: Area, at: u64, buf: &mut [u8]) -> Result<usize, DiskError>
+        ensures within { IfOk result (λ n. n ≤ length buf.old) }
+        ensures read { IfOk result (λ n. ForSome (⟦<MemDisk as Disk>⟧.seen self.old) (λ s. IsRead (drop at (s area)) n buf.old buf.new)) }
+        ensures seen { ⟦<MemDisk as Disk>⟧.seen self.new ≡ ⟦<MemDisk as Disk>⟧.seen self.old }
+        ensures stop { Within (⟦<MemDisk as Disk>⟧.images self.old) (⟦<MemDisk as Disk>⟧.images self.new) }
+        ensures memory { IsErrOf result NoMemory → Stays (⟦<MemDisk as Disk>⟧.seen self.old) (⟦<MemDisk as Disk>⟧.seen self.new) (⟦<MemDisk as Disk>⟧.images self.old) (⟦<MemDisk as Disk>⟧.images self.new) (⟦<MemDisk as Disk>⟧.faults self.old) (⟦<MemDisk as Disk>⟧.faults self.new) }
+        ensures cause { Counted (⟦<MemDisk as Disk>⟧.faults self.old) (⟦<MemDisk as Disk>⟧.faults self.new) (IsErrOf result Failed) }
+        ensures marks { ⟦<MemDisk as Disk>⟧.marks self.new ≡ ⟦<MemDisk as Disk>⟧.marks self.old }
+        ensures turn { Turns (⟦<MemDisk as Disk>⟧.calls_left self.old) (⟦<MemDisk as Disk>⟧.calls_left self.new) result }
+
+        // It fails at an armed call alone.
+        ensures kept { kept_by self.new ≡ after_call (kept_by self.old) }
+        ensures refused { OnErr result ((result ≡ Err Failed) × (⟦<MemDisk as Disk>⟧.calls_left self.old ≡ Some 0)) }
+        ensures faults { ⟦<MemDisk as Disk>⟧.faults self.new ≡ faults_after result (⟦<MemDisk as Disk>⟧.faults self.old) }
+    {
         if !take_turn(&mut self.calls_left, &mut self.failed) {
             return Err(fault(&mut self.faults));
         }
         Ok(copy_from(&self.shown[area.number() as usize], at, buf))
     }
 
-    fn len(&mut self, area: Area) -> Result<u64, DiskError> {
+    fn len(&mut self, area: Area) -> Result<u64, DiskError>
+        ensures len { IfOk result (λ n. ForSome (⟦<MemDisk as Disk>⟧.seen self.old) (λ s. n ≡ length (s area))) }
+        ensures fits { IfOk result (λ n. n < 2 ^ 63) }
+        ensures seen { ⟦<MemDisk as Disk>⟧.seen self.new ≡ ⟦<MemDisk as Disk>⟧.seen self.old }
+        ensures stop { Within (⟦<MemDisk as Disk>⟧.images self.old) (⟦<MemDisk as Disk>⟧.images self.new) }
+        ensures memory { IsErrOf result NoMemory → Stays (⟦<MemDisk as Disk>⟧.seen self.old) (⟦<MemDisk as Disk>⟧.seen self.new) (⟦<MemDisk as Disk>⟧.images self.old) (⟦<MemDisk as Disk>⟧.images self.new) (⟦<MemDisk as Disk>⟧.faults self.old) (⟦<MemDisk as Disk>⟧.faults self.new) }
+        ensures cause { Counted (⟦<MemDisk as Disk>⟧.faults self.old) (⟦<MemDisk as Disk>⟧.faults self.new) (IsErrOf result Failed) }
+        ensures marks { ⟦<MemDisk as Disk>⟧.marks self.new ≡ ⟦<MemDisk as Disk>⟧.marks self.old }
+        ensures turn { Turns (⟦<MemDisk as Disk>⟧.calls_left self.old) (⟦<MemDisk as Disk>⟧.calls_left self.new) result }
+
+        // It fails at an armed call alone.
+        ensures kept { kept_by self.new ≡ after_call (kept_by self.old) }
+        ensures refused { OnErr result ((result ≡ Err Failed) × (⟦<MemDisk as Disk>⟧.calls_left self.old ≡ Some 0)) }
+        ensures faults { ⟦<MemDisk as Disk>⟧.faults self.new ≡ faults_after result (⟦<MemDisk as Disk>⟧.faults self.old) }
+    {
         if !take_turn(&mut self.calls_left, &mut self.failed) {
             return Err(fault(&mut self.faults));
         }
@@ -220,9 +255,10 @@ impl Disk for MemDisk {
         ensures marks { ⟦<MemDisk as Disk>⟧.marks self.new ≡ ⟦<MemDisk as Disk>⟧.marks self.old }
         ensures turn { Turns (⟦<MemDisk as Disk>⟧.calls_left self.old) (⟦<MemDisk as Disk>⟧.calls_left self.new) result }
 
-        // What a stop would leave is told by these.
-        ensures synced { OnOk result ((synced_areas self.new ≡ shown_areas self.old) × (pending_changes self.new ≡ [])) }
-        ensures unsynced { OnErr result ((synced_areas self.new ≡ synced_areas self.old) × (pending_changes self.new ≡ pending_changes self.old)) }
+        // It fails at an armed call alone.
+        ensures kept { kept_by self.new ≡ after_sync (kept_by self.old) }
+        ensures refused { OnErr result ((result ≡ Err Failed) × (⟦<MemDisk as Disk>⟧.calls_left self.old ≡ Some 0)) }
+        ensures faults { ⟦<MemDisk as Disk>⟧.faults self.new ≡ faults_after result (⟦<MemDisk as Disk>⟧.faults self.old) }
     {
         if !take_turn(&mut self.calls_left, &mut self.failed) {
             return Err(fault(&mut self.faults));
@@ -242,10 +278,11 @@ impl Disk for MemDisk {
         ensures marks { ⟦<MemDisk as Disk>⟧.marks self.new ≡ ⟦<MemDisk as Disk>⟧.marks self.old }
         ensures turn { Turns (⟦<MemDisk as Disk>⟧.calls_left self.old) (⟦<MemDisk as Disk>⟧.calls_left self.new) result }
 
-        // What a stop would leave is told by these.
-        ensures synced { synced_areas self.new ≡ synced_areas self.old }
-        ensures pending { ¬ IsErrOf result NoMemory → pending_changes self.new ≡ with_change (record { area = area; edit = Write at bytes.now }) (at + length bytes.now) self.old }
-        ensures no_memory { IsErrOf result NoMemory → pending_changes self.new ≡ pending_changes self.old }
+        // It fails at an armed call, and where the area would be too long.
+        ensures kept { ¬ IsErrOf result NoMemory → kept_by self.new ≡ after_write (record { area = area; edit = Write at bytes.now }) (kept_by self.old) }
+        ensures no_memory { IsErrOf result NoMemory → kept_by self.new ≡ kept_by self.old }
+        ensures refused { IsErrOf result Failed → (⟦<MemDisk as Disk>⟧.calls_left self.old ≡ Some 0) ⊎ (2 ^ 63 ≤ at + length bytes.now) }
+        ensures faults { ⟦<MemDisk as Disk>⟧.faults self.new ≡ faults_after result (⟦<MemDisk as Disk>⟧.faults self.old) }
     {
         if at.saturating_add(bytes.len() as u64) > MAX_LEN {
             let _ = take_turn(&mut self.calls_left, &mut self.failed);
@@ -267,10 +304,11 @@ impl Disk for MemDisk {
         ensures marks { ⟦<MemDisk as Disk>⟧.marks self.new ≡ ⟦<MemDisk as Disk>⟧.marks self.old }
         ensures turn { Turns (⟦<MemDisk as Disk>⟧.calls_left self.old) (⟦<MemDisk as Disk>⟧.calls_left self.new) result }
 
-        // What a stop would leave is told by these.
-        ensures synced { synced_areas self.new ≡ synced_areas self.old }
-        ensures pending { ¬ IsErrOf result NoMemory → pending_changes self.new ≡ with_change (record { area = area; edit = Shorten len }) 0 self.old }
-        ensures no_memory { IsErrOf result NoMemory → pending_changes self.new ≡ pending_changes self.old }
+        // It fails at an armed call alone.
+        ensures kept { ¬ IsErrOf result NoMemory → kept_by self.new ≡ after_change (record { area = area; edit = Shorten len }) (kept_by self.old) }
+        ensures no_memory { IsErrOf result NoMemory → kept_by self.new ≡ kept_by self.old }
+        ensures refused { IsErrOf result Failed → ⟦<MemDisk as Disk>⟧.calls_left self.old ≡ Some 0 }
+        ensures faults { ⟦<MemDisk as Disk>⟧.faults self.new ≡ faults_after result (⟦<MemDisk as Disk>⟧.faults self.old) }
     {
         self.ask(Change {
             area,
@@ -280,11 +318,17 @@ impl Disk for MemDisk {
 }
 
 impl CrashDisk for MemDisk {
-    ghost use Rattle.disk_model.specs.Kept.{shown_areas, synced_areas, pending_changes};
+    ghost use Rattle.disk_model.specs.KeptBy.{kept_by};
 
     ghost tells = { λ _. refl };
 
-    fn arm(&mut self, calls: u64) {
+    fn arm(&mut self, calls: u64)
+        requires { 1 ≤ calls }
+        ensures stays { Stays (⟦<MemDisk as Disk>⟧.seen self.old) (⟦<MemDisk as Disk>⟧.seen self.new) (⟦<MemDisk as Disk>⟧.images self.old) (⟦<MemDisk as Disk>⟧.images self.new) (⟦<MemDisk as Disk>⟧.faults self.old) (⟦<MemDisk as Disk>⟧.faults self.new) }
+        ensures nearer { ⟦<MemDisk as Disk>⟧.calls_left self.new ≡ Some (nearer calls (⟦<MemDisk as Disk>⟧.calls_left self.old)) }
+        ensures marks { ⟦<MemDisk as Disk>⟧.marks self.new ≡ after_arm calls (⟦<MemDisk as Disk>⟧.marks self.old) }
+        ensures kept { kept_by self.new ≡ after_arming calls (kept_by self.old) }
+    {
         self.arms = self.arms.saturating_add(1);
         self.last = calls;
         self.calls_left = Some(match self.calls_left {
@@ -300,9 +344,7 @@ impl CrashDisk for MemDisk {
         ensures disarmed { ⟦<MemDisk as Disk>⟧.calls_left self.new ≡ None }
         ensures faults { ⟦<MemDisk as Disk>⟧.faults self.new ≡ ⟦<MemDisk as Disk>⟧.faults self.old }
         ensures marks { ⟦<MemDisk as Disk>⟧.marks self.new ≡ after_stop pick (⟦<MemDisk as Disk>⟧.marks self.old) }
-        ensures picked { shown_areas self.new ≡ left_by pick (pending_changes self.old) (synced_areas self.old) }
-        ensures synced { synced_areas self.new ≡ shown_areas self.new }
-        ensures none_pending { pending_changes self.new ≡ [] }
+        ensures kept { kept_by self.new ≡ after_crash pick (kept_by self.old) }
     {
         leave(&mut self.synced, &self.pending, pick);
         copy_all(&self.synced, &mut self.shown);

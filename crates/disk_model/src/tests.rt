@@ -1,97 +1,159 @@
 use super::*;
-use rc_base::Bytes;
 use std::alloc::Global;
 use std::process::Abort;
 use std::test::Fail;
 
-// The digits of a pick, the least significant first.
-fn pick(first: u8, second: u8, third: u8) -> u64 {
-    u64::from(first) + 3 * u64::from(second) + 9 * u64::from(third)
+// A call of a disk. The first two write at the start of an area and after its bytes.
+#[derive(Clone, Copy)]
+enum Call {
+    Write(Area, &'static [u8]),
+    Append(Area, &'static [u8]),
+    Empty(Area),
+    Sync,
+    WriteThrough(Area, &'static [u8]),
+    EmptyThrough(Area),
 }
 
-fn bytes_of(alloc: Global, disk: &mut MemDisk, area: Area) -> Result<Bytes, DiskError> {
-    read_all(alloc, disk, area)
+// What is done with a disk, and what comes of it.
+#[derive(Clone, Copy)]
+enum Step {
+    Does(Call),
+    Fails(Call),
+    // So many calls are done, and then none.
+    Arm(u8),
+    Crash(u64),
+    Reads(Area, &'static [u8]),
 }
+
+fn ask(disk: &mut MemDisk, call: &Call) -> Result<(), DiskError> {
+    match call {
+        Call::Write(area, bytes) => disk.write_at(*area, 0, bytes),
+        Call::Append(area, bytes) => append(disk, *area, bytes),
+        Call::Empty(area) => disk.cut(*area, 0),
+        Call::Sync => disk.sync(),
+        Call::WriteThrough(area, bytes) => write_through(disk, *area, 0, bytes),
+        Call::EmptyThrough(area) => cut_through(disk, *area, 0),
+    }
+}
+
+fn append(disk: &mut MemDisk, area: Area, bytes: &[u8]) -> Result<(), DiskError> {
+    let len = disk.len(area)?;
+    disk.write_at(area, len, bytes)
+}
+
+fn take(rt: &impl Abort, alloc: Global, disk: &mut MemDisk, step: &Step) -> Result<(), DiskError> {
+    match step {
+        Step::Does(call) => assert_eq!(rt; ask(disk, call), Ok(())),
+        Step::Fails(call) => assert_eq!(rt; ask(disk, call), Err(DiskError::Failed)),
+        Step::Arm(done) => disk.arm(u64::from(*done) + 1),
+        Step::Crash(pick) => disk.crash(*pick),
+        Step::Reads(area, bytes) => {
+            let read = read_all(alloc, disk, *area)?;
+            assert_eq!(rt; read.as_slice(), *bytes);
+        }
+    }
+    Ok(())
+}
+
+fn take_all(
+    rt: &impl Abort,
+    alloc: Global,
+    disk: &mut MemDisk,
+    steps: &[Step],
+) -> Result<(), DiskError> {
+    for step in steps {
+        take(rt, alloc, disk, step)?;
+    }
+    Ok(())
+}
+
+// A new disk takes these steps, and then those.
+fn play(rt: &impl Abort, alloc: Global, first: &[Step], then: &[Step]) -> Result<(), DiskError> {
+    let mut disk = MemDisk::new(alloc);
+    take_all(rt, alloc, &mut disk, first)?;
+    take_all(rt, alloc, &mut disk, then)
+}
+
+const SYNCED: [Step; 5] = [
+    Step::Does(Call::WriteThrough(SLOT0, &[1, 2, 3])),
+    Step::Does(Call::EmptyThrough(SLOT0)),
+    Step::Does(Call::WriteThrough(SLOT0, &[4, 5])),
+    Step::Crash(0),
+    Step::Reads(SLOT0, &[4, 5]),
+];
+
+// Three changes in two areas, a write in each and a cut.
+const CHANGES: [Step; 4] = [
+    Step::Does(Call::WriteThrough(LOG0, &[1, 2, 3])),
+    Step::Does(Call::Write(LOG0, &[7, 8])),
+    Step::Does(Call::Write(SLOT1, &[9])),
+    Step::Does(Call::Empty(LOG0)),
+];
+
+// A pick, and what it leaves of both areas. The digits of the picks are, the least significant first, 0, 0, 0 and
+// 1, 2, 0 and 2, 1, 0 and 1, 0, 2.
+type Pick = (u64, &'static [u8], &'static [u8]);
+
+const PICKS: [Pick; 4] = [
+    (0, &[1, 2, 3], &[]),
+    (7, &[7, 8, 3], &[165]),
+    (5, &[165, 165, 3], &[9]),
+    (19, &[], &[]),
+];
+
+// The first of two writes is lost.
+const GAP: [Step; 4] = [
+    Step::Does(Call::Write(LOG1, &[1, 2])),
+    Step::Does(Call::Append(LOG1, &[3])),
+    Step::Crash(3),
+    Step::Reads(LOG1, &[165, 165, 3]),
+];
+
+// The call that failed first is among the pending changes, the later ones are not: the pick has the digits 0, 1, 1.
+const ARMED: [Step; 8] = [
+    Step::Arm(1),
+    Step::Arm(4),
+    Step::Does(Call::Write(LOG0, &[1])),
+    Step::Fails(Call::Write(LOG0, &[2])),
+    Step::Fails(Call::Write(LOG0, &[3])),
+    Step::Fails(Call::Sync),
+    Step::Crash(12),
+    Step::Reads(LOG0, &[2]),
+];
 
 #[test]
 fn a_synced_write_stays(rt: HostRuntime) -> Result<(), Fail> {
-    let alloc = rt.alloc();
-    let mut disk = MemDisk::new(alloc);
-    write_through(&mut disk, SLOT0, 0, &[1, 2, 3])?;
-    cut_through(&mut disk, SLOT0, 0)?;
-    write_through(&mut disk, SLOT0, 0, &[4, 5])?;
-    disk.crash(0);
-    assert_eq!(rt;
-        bytes_of(alloc, &mut disk, SLOT0)?.as_slice(),
-        [4, 5].as_slice()
-    );
-    assert_eq!(rt; disk.len(SLOT0)?, 2);
-    let mut buf = [9; 3];
-    assert_eq!(rt; disk.read_at(SLOT0, 1, &mut buf)?, 1);
-    assert_eq!(rt; buf, [5, 9, 9]);
-    Ok(())
-}
-
-// Three changes in two areas, a write in each and a cut, of which the pick leaves these bytes.
-fn expect_left(
-    rt: &impl Abort,
-    alloc: Global,
-    pick: u64,
-    log: &[u8],
-    slot: &[u8],
-) -> Result<(), DiskError> {
-    let mut disk = MemDisk::new(alloc);
-    write_through(&mut disk, LOG0, 0, &[1, 2, 3])?;
-    disk.write_at(LOG0, 0, &[7, 8])?;
-    disk.write_at(SLOT1, 0, &[9])?;
-    disk.cut(LOG0, 0)?;
-    disk.crash(pick);
-    let left = bytes_of(alloc, &mut disk, LOG0)?;
-    assert_eq!(rt; left.as_slice(), log);
-    let left = bytes_of(alloc, &mut disk, SLOT1)?;
-    assert_eq!(rt; left.as_slice(), slot);
+    play(&rt, rt.alloc(), &SYNCED, &[])?;
     Ok(())
 }
 
 #[test]
-fn each_change_has_its_digit(rt: HostRuntime) -> Result<(), Fail> {
-    expect_left(&rt, rt.alloc(), pick(0, 0, 0), &[1, 2, 3], &[])?;
-    expect_left(&rt, rt.alloc(), pick(1, 2, 0), &[7, 8, 3], &[165])?;
-    expect_left(&rt, rt.alloc(), pick(2, 1, 0), &[165, 165, 3], &[9])?;
-    expect_left(&rt, rt.alloc(), pick(1, 0, 2), &[], &[])?;
-    Ok(())
-}
-
-#[test]
-fn a_write_behind_a_lost_one_fills_the_gap(rt: HostRuntime) -> Result<(), Fail> {
-    let alloc = rt.alloc();
-    let mut disk = MemDisk::new(alloc);
-    disk.write_at(LOG1, 0, &[1, 2])?;
-    disk.write_at(LOG1, 2, &[3])?;
-    disk.crash(pick(0, 1, 0));
-    assert_eq!(rt;
-        bytes_of(alloc, &mut disk, LOG1)?.as_slice(),
-        [165, 165, 3].as_slice()
-    );
+fn a_write_after_a_lost_one_fills_the_gap(rt: HostRuntime) -> Result<(), Fail> {
+    play(&rt, rt.alloc(), &GAP, &[])?;
     Ok(())
 }
 
 #[test]
 fn an_armed_call_fails_and_each_later_one(rt: HostRuntime) -> Result<(), Fail> {
-    let alloc = rt.alloc();
-    let mut disk = MemDisk::new(alloc);
-    disk.arm(2);
-    disk.arm(5);
-    disk.write_at(LOG0, 0, &[1])?;
-    assert_eq!(rt; disk.write_at(LOG0, 0, &[2]), Err(DiskError::Failed));
-    assert_eq!(rt; disk.write_at(LOG0, 0, &[3]), Err(DiskError::Failed));
-    assert_eq!(rt; disk.sync(), Err(DiskError::Failed));
-    assert_eq!(rt; disk.len(LOG0), Err(DiskError::Failed));
-    // The call that failed first is among the pending changes, the later ones are not.
-    disk.crash(pick(0, 1, 1));
-    assert_eq!(rt;
-        bytes_of(alloc, &mut disk, LOG0)?.as_slice(),
-        [2].as_slice()
-    );
+    play(&rt, rt.alloc(), &ARMED, &[])?;
+    Ok(())
+}
+
+// What is left of the three changes.
+fn pick_each(rt: &impl Abort, alloc: Global, picks: &[Pick]) -> Result<(), DiskError> {
+    for (pick, log, slot) in picks {
+        let left = [
+            Step::Crash(*pick),
+            Step::Reads(LOG0, log),
+            Step::Reads(SLOT1, slot),
+        ];
+        play(rt, alloc, &CHANGES, &left)?;
+    }
+    Ok(())
+}
+
+#[test]
+fn each_change_has_its_digit(rt: HostRuntime) -> Result<(), Fail> {
+    pick_each(&rt, rt.alloc(), &PICKS)?;
     Ok(())
 }

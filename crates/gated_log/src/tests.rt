@@ -1,104 +1,175 @@
+ghost use Rattle.std.specs.Prelude.{◌≡◌, false, IfOk};
+ghost use Rattle.gated_log.specs.Log.{IsSettled};
+
 use super::*;
-use disk_model::{CrashDisk, LOG0, LOG1, MemDisk, read_all, write_through};
+use disk_model::{Area, CrashDisk, Disk, DiskError, LOG0, LOG1, MemDisk, read_all, write_through};
 use rc_base::Bytes;
 use std::alloc::Global;
 use std::process::Abort;
 use std::test::Fail;
 
-const PAYLOAD: [u8; 9] = [2, 0, 0, 0, 0, 0, 0, 0, 2];
+// A block: its place and its payload.
+type Row = (u64, &'static [u8]);
 
-const BLOCK: [u8; 15] = [1, 0, 0, 0, 9, 2, 0, 0, 0, 0, 0, 0, 0, 2, 0];
-
-fn expect_block(rt: &impl Abort, blocks: &Blocks, i: usize, place: u64, payload: &[u8]) {
-    let list = blocks.as_slice();
-    assert!(rt; i < list.len());
-    let block = &list[i];
-    assert_eq!(rt; block.place, place);
-    assert_eq!(rt; block.payload.as_slice(), payload);
+// What is done with the first log area, and what comes of it.
+#[derive(Clone, Copy)]
+enum Step {
+    // The area gets these bytes.
+    Write(&'static [u8]),
+    Append(&'static [u8]),
+    Blocks(&'static [Row]),
+    Bytes(&'static [u8]),
 }
 
-#[test]
-fn a_block_is_spelled_and_read(rt: HostRuntime) -> Result<(), Fail> {
-    let alloc = rt.alloc();
-    let mut disk = MemDisk::new(alloc);
-    let (mut log, blocks) = GatedLog::mount(alloc, &mut disk, LOG0)?;
-    assert!(rt; blocks.as_slice().is_empty());
-    log.append(&mut disk, &PAYLOAD)?;
-    let bytes = read_all(alloc, &mut disk, LOG0)?;
-    assert_eq!(rt; bytes.as_slice(), BLOCK.as_slice());
-    let (_log, blocks) = GatedLog::mount(alloc, &mut disk, LOG0)?;
-    assert_eq!(rt; blocks.as_slice().len(), 1);
-    expect_block(&rt, &blocks, 0, 0, &PAYLOAD);
+fn append(alloc: Global, disk: &mut MemDisk, payload: &[u8]) -> Result<(), LogError> {
+    let (mut log, _blocks) = GatedLog::mount(alloc, disk, LOG0)?;
+    if !payload.is_empty() && payload.len() <= 1_048_576 {
+        log.append(disk, payload)?;
+    }
     Ok(())
 }
 
-// An append of a second block that is stopped at one of its device calls leaves this many blocks.
+fn has_rows(blocks: &[Block], rows: &[Row]) -> bool {
+    if blocks.len() != rows.len() {
+        return false;
+    }
+    let mut same = true;
+    for i in 0..rows.len() {
+        let block = &blocks[i];
+        let (place, payload) = rows[i];
+        same &= block.place == place && block.payload.as_slice() == payload;
+    }
+    same
+}
+
+fn has_blocks(alloc: Global, disk: &mut MemDisk, rows: &[Row]) -> Result<bool, LogError> {
+    let (_log, blocks) = GatedLog::mount(alloc, disk, LOG0)?;
+    Ok(has_rows(blocks.as_slice(), rows))
+}
+
+fn has_bytes(
+    alloc: Global,
+    disk: &mut MemDisk,
+    area: Area,
+    bytes: &[u8],
+) -> Result<bool, DiskError> {
+    let read = read_all(alloc, disk, area)?;
+    Ok(read.as_slice() == bytes)
+}
+
+fn take(rt: &impl Abort, alloc: Global, disk: &mut MemDisk, step: &Step) -> Result<(), LogError> {
+    match step {
+        Step::Write(bytes) => write_through(disk, LOG0, 0, bytes)?,
+        Step::Append(payload) => append(alloc, disk, payload)?,
+        Step::Blocks(rows) => assert!(rt; has_blocks(alloc, disk, rows)?),
+        Step::Bytes(bytes) => assert!(rt; has_bytes(alloc, disk, LOG0, bytes)?),
+    }
+    Ok(())
+}
+
+// A new disk takes these steps.
+fn play(rt: &impl Abort, alloc: Global, steps: &[Step]) -> Result<(), LogError> {
+    let mut disk = MemDisk::new(alloc);
+    for step in steps {
+        take(rt, alloc, &mut disk, step)?;
+    }
+    Ok(())
+}
+
+const ONE_BLOCK: [Step; 4] = [
+    Step::Blocks(&[]),
+    Step::Append(&[2, 0, 0, 0, 0, 0, 0, 0, 2]),
+    Step::Bytes(&[1, 0, 0, 0, 9, 2, 0, 0, 0, 0, 0, 0, 0, 2, 0]),
+    Step::Blocks(&[(0, &[2, 0, 0, 0, 0, 0, 0, 0, 2])]),
+];
+
+#[test]
+fn a_block_is_spelled_and_read(rt: HostRuntime) -> Result<(), Fail> {
+    play(&rt, rt.alloc(), &ONE_BLOCK)?;
+    Ok(())
+}
+
+const CUT_SHORT: [Step; 3] = [
+    Step::Write(&[1, 0, 0, 0, 200, 5]),
+    Step::Blocks(&[]),
+    Step::Bytes(&[0]),
+];
+
+#[test]
+fn a_block_that_is_cut_short_is_dropped(rt: HostRuntime) -> Result<(), Fail> {
+    play(&rt, rt.alloc(), &CUT_SHORT)?;
+    Ok(())
+}
+
+// An append is stopped at one of its device calls, counted from 0. Its error, and what the next append answers.
+fn append_stopped(
+    alloc: Global,
+    disk: &mut MemDisk,
+    call: u8,
+) -> Result<Option<(LogError, Result<(), LogError>)>, LogError> {
+    let (mut log, _blocks) = GatedLog::mount(alloc, disk, LOG0)?;
+    disk.arm(u64::from(call) + 1);
+    match log.append(disk, &[6, 7]) {
+        Ok(()) => Ok(None),
+        Err(e) => Ok(Some((e, log.append(disk, &[8])))),
+    }
+}
+
+// The second of two appends is stopped, and this is left.
 fn expect_stopped(
     rt: &impl Abort,
     alloc: Global,
     call: u8,
     pick: u8,
-    kept: usize,
+    rows: &[Row],
 ) -> Result<(), LogError> {
     let mut disk = MemDisk::new(alloc);
-    let (mut log, _blocks) = GatedLog::mount(alloc, &mut disk, LOG0)?;
-    log.append(&mut disk, &[5])?;
-    disk.arm(u64::from(call) + 1);
-    match log.append(&mut disk, &[6, 7]) {
-        Ok(()) => panic!(rt; "the append was not stopped"),
-        Err(e) => {
-            assert_eq!(rt; e, LogError::Disk);
-            assert_eq!(rt; log.append(&mut disk, &[8]), Err(LogError::Closed));
-        }
-    }
+    append(alloc, &mut disk, &[5])?;
+    let told = append_stopped(alloc, &mut disk, call)?;
+    assert!(rt; matches!(&told, Some((LogError::Disk, Err(LogError::Closed)))));
     disk.crash(u64::from(pick));
-    let (_log, blocks) = GatedLog::mount(alloc, &mut disk, LOG0)?;
-    assert_eq!(rt; blocks.as_slice().len(), kept);
-    expect_block(rt, &blocks, 0, 0, &[5]);
-    if kept > 1 {
-        expect_block(rt, &blocks, 1, 6, &[6, 7]);
+    assert!(rt; has_blocks(alloc, &mut disk, rows)?);
+    Ok(())
+}
+
+const BOTH: [Row; 2] = [(0, &[5]), (6, &[6, 7])];
+
+// The body and its sync are calls 0 and 1, the gate and its sync are calls 2 and 3.
+fn expect_all_stopped(rt: &impl Abort, alloc: Global) -> Result<(), LogError> {
+    for call in 0..4u8 {
+        for pick in 0..3u8 {
+            let kept = if call >= 2 && pick == 1 { 2 } else { 1 };
+            expect_stopped(rt, alloc, call, pick, &BOTH[..kept])?;
+        }
     }
     Ok(())
 }
 
-// The body and its sync are calls 0 and 1, the gate and its sync are calls 2 and 3.
 #[test]
 fn a_stopped_append_leaves_the_old_blocks_or_the_new_one_too(rt: HostRuntime) -> Result<(), Fail> {
-    let alloc = rt.alloc();
-    for pick in 0..3u8 {
-        expect_stopped(&rt, alloc, 0, pick, 1)?;
-        expect_stopped(&rt, alloc, 1, pick, 1)?;
-        let kept = if pick == 1 { 2 } else { 1 };
-        expect_stopped(&rt, alloc, 2, pick, kept)?;
-        expect_stopped(&rt, alloc, 3, pick, kept)?;
-    }
+    expect_all_stopped(&rt, rt.alloc())?;
     Ok(())
+}
+
+fn begin_fresh(alloc: Global, disk: &mut MemDisk) -> Result<GatedLog, LogError>
+    ensures log { IfOk result (λ log. log.closed ≡ false) }
+    ensures settled { IfOk result (λ log. IsSettled (⟦<MemDisk as Disk>⟧.images disk.new) log) }
+{
+    let first = Bytes::from_slice(alloc, &[5])?;
+    let payloads = [first, Bytes::from_slice(alloc, &[6, 7])?];
+    GatedLog::fresh(alloc, disk, LOG1, &payloads)
+}
+
+fn append_to_fresh(alloc: Global, disk: &mut MemDisk) -> Result<(), LogError> {
+    let mut log = begin_fresh(alloc, disk)?;
+    log.append(disk, &[8])
 }
 
 #[test]
 fn a_fresh_area_has_its_blocks(rt: HostRuntime) -> Result<(), Fail> {
-    let alloc = rt.alloc();
-    let mut disk = MemDisk::new(alloc);
-    let payloads = [
-        Bytes::from_slice(alloc, &[5])?,
-        Bytes::from_slice(alloc, &[6, 7])?,
-    ];
-    let mut log = GatedLog::fresh(alloc, &mut disk, LOG1, &payloads)?;
-    log.append(&mut disk, &[8])?;
-    let bytes = read_all(alloc, &mut disk, LOG1)?;
-    let expected: &[u8] = &[1, 0, 0, 0, 1, 5, 1, 0, 0, 0, 2, 6, 7, 1, 0, 0, 0, 1, 8, 0];
-    assert_eq!(rt; bytes.as_slice(), expected);
-    Ok(())
-}
-
-#[test]
-fn a_block_that_is_cut_short_is_dropped(rt: HostRuntime) -> Result<(), Fail> {
-    let alloc = rt.alloc();
-    let mut disk = MemDisk::new(alloc);
-    write_through(&mut disk, LOG0, 0, &[1, 0, 0, 0, 200, 5])?;
-    let (_log, blocks) = GatedLog::mount(alloc, &mut disk, LOG0)?;
-    assert!(rt; blocks.as_slice().is_empty());
-    let bytes = read_all(alloc, &mut disk, LOG0)?;
-    assert_eq!(rt; bytes.as_slice(), [0].as_slice());
+    let mut disk = MemDisk::new(rt.alloc());
+    append_to_fresh(rt.alloc(), &mut disk)?;
+    let bytes: &[u8] = &[1, 0, 0, 0, 1, 5, 1, 0, 0, 0, 2, 6, 7, 1, 0, 0, 0, 1, 8, 0];
+    assert!(rt; has_bytes(rt.alloc(), &mut disk, LOG1, bytes)?);
     Ok(())
 }

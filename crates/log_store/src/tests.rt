@@ -4,7 +4,7 @@ ghost use Rattle.log_store.specs.Examples.{first_items};
 use super::*;
 use barrier_group::Group;
 use coll_model::Op;
-use disk_model::{Area, CrashDisk, LOG0, LOG1, MemDisk};
+use disk_model::{Area, CrashDisk, LOG0, LOG1, MemDisk, read_all};
 use gated_log::{GatedLog, LogError};
 use log_records::{Physical, Record, physical_fits};
 use rc_base::{Epoch, Lsn, Name, NoMemory, TxnId};
@@ -15,20 +15,33 @@ use std::test::*;
 // The length of a block with a head alone: the gate, the length, and 26 bytes of the head.
 const HEAD_BLOCK: u64 = 31;
 
+// A physical record. Logical ones have their position and the number of their epoch first.
+#[derive(Clone, Copy)]
+enum Item {
+    // A head of this generation.
+    Head(u64),
+    Fence(u32),
+    // It names this epoch.
+    EpochStart(u64, u32, u32),
+    // Its transaction is of this epoch.
+    Begin(u64, u32, u32),
+    // This position is stable.
+    Barrier(u64, u32, u64),
+    // At position 3, of the transaction of a Begin, it names this position before it.
+    Operation(u64),
+    TruncateTail,
+    CheckpointDone,
+    Reset,
+}
+
 fn epoch(number: u32) -> Epoch {
     Epoch { loss: 0, number }
 }
 
-fn head(generation: u64) -> Physical {
-    Physical::Head {
-        generation,
-        partition: 7,
-    }
-}
-
-fn fence(number: u32) -> Physical {
-    Physical::Fence {
+fn txn(number: u32) -> TxnId {
+    TxnId {
         epoch: epoch(number),
+        n: 1,
     }
 }
 
@@ -40,32 +53,46 @@ fn logical(lsn: u64, number: u32, body: Record) -> Physical {
     }
 }
 
-fn epoch_start(lsn: u64, number: u32) -> Physical {
-    logical(
-        lsn,
-        number,
-        Record::EpochStart {
+fn operation(alloc: Global, prev: u64) -> Result<Physical, NoMemory> {
+    let op = Op::Unmake(Name::from_slice(alloc, b"d")?);
+    let body = Record::Operation {
+        txn: txn(2),
+        prev: Lsn(prev),
+        op,
+    };
+    Ok(logical(3, 2, body))
+}
+
+fn plain(item: &Item) -> Physical {
+    let (slot, at, len) = (0, Lsn(0), 0);
+    match *item {
+        Item::Head(generation) => Physical::Head {
+            generation,
+            partition: 7,
+        },
+        Item::EpochStart(lsn, number, named) => {
+            let epoch = epoch(named);
+            logical(lsn, number, Record::EpochStart { epoch })
+        }
+        Item::Begin(lsn, number, of) => logical(lsn, number, Record::Begin { txn: txn(of) }),
+        Item::Barrier(lsn, number, stable) => {
+            let stable = Lsn(stable);
+            logical(lsn, number, Record::Barrier { stable })
+        }
+        Item::Fence(number) => Physical::Fence {
             epoch: epoch(number),
         },
-    )
+        Item::CheckpointDone => Physical::CheckpointDone { slot, at, len },
+        Item::Reset => Physical::Reset { slot, at, len },
+        Item::TruncateTail | Item::Operation(_) => Physical::TruncateTail { lsn: Lsn(0) },
+    }
 }
 
-fn begin(lsn: u64, number: u32, of: u32) -> Physical {
-    let txn = TxnId {
-        epoch: epoch(of),
-        n: 1,
-    };
-    logical(lsn, number, Record::Begin { txn })
-}
-
-fn barrier(lsn: u64, number: u32, stable: u64) -> Physical {
-    logical(
-        lsn,
-        number,
-        Record::Barrier {
-            stable: Lsn(stable),
-        },
-    )
+fn physical(alloc: Global, item: &Item) -> Result<Physical, NoMemory> {
+    match item {
+        Item::Operation(prev) => operation(alloc, *prev),
+        _ => Ok(plain(item)),
+    }
 }
 
 fn push(group: &mut Group, item: Physical) -> Result<(), NoMemory> {
@@ -75,44 +102,11 @@ fn push(group: &mut Group, item: Physical) -> Result<(), NoMemory> {
     Ok(())
 }
 
-// Whether the disk's log has this identity, this fence and these records.
-fn holds(
-    disk: &mut MemDisk,
-    alloc: Global,
-    identity: u128,
-    fence: u32,
-    items: &[(u32, Record)],
-) -> bool {
-    match LogStore::recover(alloc, disk, 99) {
-        Ok((store, told)) => store.identity() == identity
-            && told.fence == epoch(fence)
-            && has(&told, items),
-        Err(_) => false,
+fn push_all(alloc: Global, group: &mut Group, items: &[Item]) -> Result<(), NoMemory> {
+    for item in items {
+        push(group, physical(alloc, item)?)?;
     }
-}
-
-fn has(told: &Durable, items: &[(u32, Record)]) -> bool {
-    let records = told.records.as_slice();
-    if records.len() != items.len() {
-        return false;
-    }
-    for i in 0..records.len() {
-        let (number, body) = &items[i];
-        let (had, record) = &records[i];
-        if *had != epoch(*number) || record != body {
-            return false;
-        }
-    }
-    true
-}
-
-// Where the disk's log is wrong: the number of the area and the place.
-fn wrong_at(disk: &mut MemDisk, alloc: Global) -> Option<(u32, u64)> {
-    let result = LogStore::recover(alloc, disk, 99);
-    match &result {
-        Err(RecoverError::Corrupt { area, at }) => Some((area.number(), *at)),
-        _ => None,
-    }
+    Ok(())
 }
 
 // Adds a block of this group to an area, whatever its records are.
@@ -124,295 +118,425 @@ fn write(alloc: Global, disk: &mut MemDisk, area: Area, group: &mut Group) -> Re
     Ok(())
 }
 
-fn write_one(
+fn write_items(
     alloc: Global,
     disk: &mut MemDisk,
     area: Area,
-    item: Physical,
+    items: &[Item],
 ) -> Result<(), LogError> {
     let mut group = Group::new(alloc);
-    push(&mut group, item)?;
+    push_all(alloc, &mut group, items)?;
     write(alloc, disk, area, &mut group)
+}
+
+// Adds a block of this payload.
+fn write_payload(alloc: Global, disk: &mut MemDisk, payload: &[u8]) -> Result<(), LogError> {
+    let (mut log, _blocks) = GatedLog::mount(alloc, disk, LOG0)?;
+    if !payload.is_empty() && payload.len() <= 1_048_576 {
+        log.append(disk, payload)?;
+    }
+    Ok(())
+}
+
+fn is_item(had: Epoch, record: &Record, item: &Item) -> bool {
+    match (record, item) {
+        (Record::EpochStart { epoch: named }, Item::EpochStart(_, number, of)) => {
+            had == epoch(*number) && *named == epoch(*of)
+        }
+        (Record::Begin { txn: begun }, Item::Begin(_, number, of)) => {
+            had == epoch(*number) && *begun == txn(*of)
+        }
+        (Record::Barrier { stable }, Item::Barrier(_, number, at)) => {
+            had == epoch(*number) && *stable == Lsn(*at)
+        }
+        _ => false,
+    }
+}
+
+fn has(told: &Durable, items: &[Item]) -> bool {
+    let records = told.records.as_slice();
+    if records.len() != items.len() {
+        return false;
+    }
+    let mut same = true;
+    for i in 0..records.len() {
+        let (had, record) = &records[i];
+        same &= is_item(*had, record, &items[i]);
+    }
+    same
+}
+
+// Whether the disk's log has the identity 7, this fence and these records. A new log would have another identity.
+fn holds(alloc: Global, disk: &mut MemDisk, fence: u32, items: &[Item]) -> bool {
+    match LogStore::recover(alloc, disk, 99) {
+        Ok((store, told)) => {
+            store.identity() == 7 && told.fence == epoch(fence) && has(&told, items)
+        }
+        Err(_) => false,
+    }
+}
+
+// How the disk's log is opened: on a disk with none it begins with this identity.
+fn open(alloc: Global, disk: &mut MemDisk, identity: u128) -> Result<(), RecoverError> {
+    LogStore::recover(alloc, disk, identity)?;
+    Ok(())
+}
+
+// What is done with a disk, and what comes of it.
+#[derive(Clone, Copy)]
+enum Step {
+    // A block more in the area with this number, of these records.
+    Block(u32, &'static [Item]),
+    // A block more in the first area, of this payload.
+    Payload(&'static [u8]),
+    // The log is opened, and begins with the identity 7 where there is none.
+    Opens,
+    // The log has this fence and these records.
+    Holds(u32, &'static [Item]),
+    // The area with this number is wrong, at this place.
+    Wrong(u32, u64),
+    // The first area has these bytes.
+    Bytes(&'static [u8]),
+}
+
+fn take(rt: &impl Abort, alloc: Global, disk: &mut MemDisk, step: &Step) -> Result<(), LogError> {
+    match step {
+        Step::Block(area, items) => write_items(alloc, disk, area_of(*area), items)?,
+        Step::Payload(payload) => write_payload(alloc, disk, payload)?,
+        Step::Opens => assert_eq!(rt; open(alloc, disk, 7), Ok(())),
+        Step::Holds(fence, items) => assert!(rt; holds(alloc, disk, *fence, items)),
+        Step::Wrong(area, at) => {
+            let (area, at) = (area_of(*area), *at);
+            assert_eq!(rt;
+                open(alloc, disk, 99),
+                Err(RecoverError::Corrupt { area, at })
+            );
+        }
+        Step::Bytes(bytes) => {
+            let read = read_all(alloc, disk, LOG0)?;
+            assert_eq!(rt; read.as_slice(), *bytes);
+        }
+    }
+    Ok(())
+}
+
+fn area_of(number: u32) -> Area {
+    if number == 0 { LOG0 } else { LOG1 }
+}
+
+// A new disk takes these steps.
+fn play(rt: &impl Abort, alloc: Global, steps: &[Step]) -> Result<(), LogError> {
+    let mut disk = MemDisk::new(alloc);
+    for step in steps {
+        take(rt, alloc, &mut disk, step)?;
+    }
+    Ok(())
 }
 
 #[test]
 fn a_new_disk_gets_a_head_and_keeps_its_identity(rt: HostRuntime) -> Result<(), Fail> {
-    let alloc = rt.alloc();
-    let mut disk = MemDisk::new(alloc);
-    match LogStore::recover(alloc, &mut disk, 7) {
-        Ok((store, told)) => {
-            assert_eq!(rt; store.identity(), 7);
-            assert_eq!(rt; told.fence, epoch(0));
-            assert!(rt; told.records.is_empty());
-        }
-        Err(_) => panic!(rt; "a new disk is opened"),
-    }
-    let (_log, blocks) = GatedLog::mount(alloc, &mut disk, LOG0)?;
-    match blocks.as_slice() {
-        [block] => assert_eq!(rt;
-            block.payload.as_slice(),
-            [
-                6, 1, 0, 0, 0, 0, 0, 0, 0, 1, 0, 0, 0, 0, 0, 0, 0, 0, 0, 0, 0, 0, 0, 0, 0, 7
-            ]
-            .as_slice()
-        ),
-        _ => panic!(rt; "one block"),
-    }
-    assert!(rt; holds(&mut disk, alloc, 7, 0, &[]));
+    let steps = [
+        Step::Opens,
+        Step::Bytes(&[
+            1, 0, 0, 0, 26, 6, 1, 0, 0, 0, 0, 0, 0, 0, 1, 0, 0, 0, 0, 0, 0, 0, 0, 0, 0, 0, 0, 0, 0,
+            0, 7, 0,
+        ]),
+        Step::Holds(0, &[]),
+    ];
+    play(&rt, rt.alloc(), &steps)?;
     Ok(())
 }
+
+const RECORDS: [Item; 3] = [
+    Item::EpochStart(1, 3, 3),
+    Item::Begin(2, 3, 3),
+    Item::Barrier(3, 3, 2),
+];
+
+// The fence is that of the records, or a greater one of a Fence.
+const BLOCKS: [Step; 8] = [
+    Step::Block(0, &[Item::Head(1)]),
+    Step::Block(0, &[Item::EpochStart(1, 3, 3), Item::Begin(2, 3, 3)]),
+    Step::Block(0, &[Item::Barrier(3, 3, 2)]),
+    Step::Holds(3, &RECORDS),
+    Step::Block(0, &[Item::Fence(2)]),
+    Step::Holds(3, &RECORDS),
+    Step::Block(0, &[Item::Fence(5)]),
+    Step::Holds(5, &RECORDS),
+];
 
 #[test]
-fn two_blocks_are_read(rt: HostRuntime) -> Result<(), Fail> {
-    let alloc = rt.alloc();
-    let mut disk = MemDisk::new(alloc);
-    write_one(alloc, &mut disk, LOG0, head(1))?;
-    let mut group = Group::new(alloc);
-    push(&mut group, epoch_start(1, 3))?;
-    push(&mut group, begin(2, 3, 3))?;
-    write(alloc, &mut disk, LOG0, &mut group)?;
-    write_one(alloc, &mut disk, LOG0, barrier(3, 3, 2))?;
-    let items = [
-        (3, Record::EpochStart { epoch: epoch(3) }),
-        (
-            3,
-            Record::Begin {
-                txn: TxnId {
-                    epoch: epoch(3),
-                    n: 1,
-                },
-            },
-        ),
-        (3, Record::Barrier { stable: Lsn(2) }),
-    ];
-    // The fence is that of the records.
-    assert!(rt; holds(&mut disk, alloc, 7, 3, &items));
-    write_one(alloc, &mut disk, LOG0, fence(2))?;
-    assert!(rt; holds(&mut disk, alloc, 7, 3, &items));
-    write_one(alloc, &mut disk, LOG0, fence(5))?;
-    assert!(rt; holds(&mut disk, alloc, 7, 5, &items));
+fn blocks_are_read(rt: HostRuntime) -> Result<(), Fail> {
+    play(&rt, rt.alloc(), &BLOCKS)?;
     Ok(())
 }
 
-// Where a log of a head and these two blocks of one record is wrong.
-fn wrong_with(
-    alloc: Global,
-    first: Physical,
-    second: Physical,
-) -> Result<Option<(u32, u64)>, LogError> {
+// A log of a head and these records, each in a block of its own, and where it is wrong.
+type Case = (&'static [Item], Option<(u32, u64)>);
+
+fn judge(rt: &impl Abort, alloc: Global, case: &Case) -> Result<(), LogError> {
     let mut disk = MemDisk::new(alloc);
-    write_one(alloc, &mut disk, LOG0, head(1))?;
-    write_one(alloc, &mut disk, LOG0, first)?;
-    write_one(alloc, &mut disk, LOG0, second)?;
-    Ok(wrong_at(&mut disk, alloc))
+    write_items(alloc, &mut disk, LOG0, &[Item::Head(1)])?;
+    write_each(alloc, &mut disk, case.0)?;
+    assert_eq!(rt; open(alloc, &mut disk, 99), answer(case.1));
+    Ok(())
 }
+
+fn write_each(alloc: Global, disk: &mut MemDisk, items: &[Item]) -> Result<(), LogError> {
+    for i in 0..items.len() {
+        write_items(alloc, disk, LOG0, &items[i..i + 1])?;
+    }
+    Ok(())
+}
+
+fn answer(wrong: Option<(u32, u64)>) -> Result<(), RecoverError> {
+    match wrong {
+        None => Ok(()),
+        Some((area, at)) => Err(RecoverError::Corrupt {
+            area: area_of(area),
+            at,
+        }),
+    }
+}
+
+fn judge_each(rt: &impl Abort, alloc: Global, cases: &[Case]) -> Result<(), LogError> {
+    for case in cases {
+        judge(rt, alloc, case)?;
+    }
+    Ok(())
+}
+
+// A block of one Fence has 14 bytes.
+const AFTER_FENCE: Option<(u32, u64)> = Some((0, HEAD_BLOCK + 14));
+
+const FOLD: [Case; 9] = [
+    (&[Item::Fence(1), Item::Fence(2)], None),
+    (&[Item::Fence(1), Item::Head(1)], AFTER_FENCE),
+    (&[Item::Head(1), Item::Fence(1)], Some((0, HEAD_BLOCK))),
+    (&[Item::Fence(1), Item::EpochStart(2, 1, 1)], AFTER_FENCE),
+    (&[Item::Fence(1), Item::Begin(1, 1, 1)], AFTER_FENCE),
+    (&[Item::Fence(1), Item::EpochStart(1, 0, 0)], AFTER_FENCE),
+    (&[Item::Fence(1), Item::TruncateTail], AFTER_FENCE),
+    (&[Item::Fence(1), Item::CheckpointDone], AFTER_FENCE),
+    (&[Item::Fence(1), Item::Reset], AFTER_FENCE),
+];
 
 #[test]
 fn a_record_that_breaks_the_fold_is_found_at_its_block(rt: HostRuntime) -> Result<(), Fail> {
-    let alloc = rt.alloc();
-    let at_head = Some((0, HEAD_BLOCK));
-    // A block of one Fence has 14 bytes.
-    let behind_fence = Some((0, HEAD_BLOCK + 14));
-    assert_eq!(rt; wrong_with(alloc, fence(1), fence(2))?, None);
-    assert_eq!(rt; wrong_with(alloc, fence(1), head(1))?, behind_fence);
-    assert_eq!(rt; wrong_with(alloc, head(1), fence(1))?, at_head);
-    assert_eq!(rt;
-        wrong_with(alloc, fence(1), epoch_start(2, 1))?,
-        behind_fence
-    );
-    assert_eq!(rt; wrong_with(alloc, fence(1), begin(1, 1, 1))?, behind_fence);
-    assert_eq!(rt;
-        wrong_with(alloc, fence(1), epoch_start(1, 0))?,
-        behind_fence
-    );
-    assert_eq!(rt;
-        wrong_with(alloc, fence(1), Physical::TruncateTail { lsn: Lsn(0) })?,
-        behind_fence
-    );
-    let done = Physical::CheckpointDone {
-        slot: 0,
-        at: Lsn(0),
-        len: 0,
-    };
-    assert_eq!(rt; wrong_with(alloc, fence(1), done)?, behind_fence);
-    let reset = Physical::Reset {
-        slot: 0,
-        at: Lsn(0),
-        len: 0,
-    };
-    assert_eq!(rt; wrong_with(alloc, fence(1), reset)?, behind_fence);
+    judge_each(&rt, rt.alloc(), &FOLD)?;
     Ok(())
 }
+
+// A block of one EpochStart or Barrier has 5 bytes, 17 of the position and epoch with their tag, and 9; that of a Begin
+// has 8 more.
+const AFTER_START: Option<(u32, u64)> = Some((0, HEAD_BLOCK + 31));
+
+const AFTER_BEGIN: Option<(u32, u64)> = Some((0, HEAD_BLOCK + 70));
+
+const EPOCHS: [Case; 6] = [
+    (&[Item::EpochStart(1, 2, 2), Item::Barrier(2, 2, 1)], None),
+    (
+        &[Item::EpochStart(1, 2, 2), Item::Barrier(2, 1, 1)],
+        AFTER_START,
+    ),
+    (
+        &[Item::EpochStart(1, 2, 2), Item::Barrier(2, 3, 1)],
+        AFTER_START,
+    ),
+    (
+        &[Item::EpochStart(1, 2, 2), Item::EpochStart(2, 2, 2)],
+        AFTER_START,
+    ),
+    (
+        &[Item::EpochStart(1, 2, 2), Item::EpochStart(2, 1, 1)],
+        AFTER_START,
+    ),
+    (
+        &[Item::EpochStart(1, 2, 2), Item::EpochStart(2, 3, 4)],
+        AFTER_START,
+    ),
+];
 
 #[test]
 fn an_epoch_that_falls_is_found(rt: HostRuntime) -> Result<(), Fail> {
-    let alloc = rt.alloc();
-    // A block of one EpochStart or Barrier has 5 bytes, 17 of the position and epoch with their tag, and 9.
-    let behind = Some((0, HEAD_BLOCK + 31));
-    assert_eq!(rt;
-        wrong_with(alloc, epoch_start(1, 2), barrier(2, 2, 1))?,
-        None
-    );
-    assert_eq!(rt;
-        wrong_with(alloc, epoch_start(1, 2), barrier(2, 1, 1))?,
-        behind
-    );
-    assert_eq!(rt;
-        wrong_with(alloc, epoch_start(1, 2), barrier(2, 3, 1))?,
-        behind
-    );
-    assert_eq!(rt;
-        wrong_with(alloc, epoch_start(1, 2), epoch_start(2, 2))?,
-        behind
-    );
-    assert_eq!(rt;
-        wrong_with(alloc, epoch_start(1, 2), epoch_start(2, 1))?,
-        behind
-    );
-    let other = logical(2, 3, Record::EpochStart { epoch: epoch(4) });
-    assert_eq!(rt; wrong_with(alloc, epoch_start(1, 2), other)?, behind);
+    judge_each(&rt, rt.alloc(), &EPOCHS)?;
     Ok(())
 }
+
+// What breaks the fold is found before what may not stand in the tail.
+const TAIL: [Case; 5] = [
+    (&[Item::EpochStart(1, 2, 2), Item::Begin(2, 2, 2)], None),
+    (
+        &[Item::EpochStart(1, 2, 2), Item::Begin(2, 2, 1)],
+        AFTER_START,
+    ),
+    (
+        &[Item::EpochStart(1, 2, 2), Item::Barrier(2, 2, 2)],
+        AFTER_START,
+    ),
+    (
+        &[
+            Item::EpochStart(1, 2, 2),
+            Item::Barrier(2, 2, 2),
+            Item::Barrier(3, 2, 3),
+        ],
+        AFTER_START,
+    ),
+    (
+        &[
+            Item::EpochStart(1, 2, 2),
+            Item::Barrier(2, 2, 2),
+            Item::Barrier(3, 2, 3),
+            Item::Barrier(9, 2, 1),
+        ],
+        Some((0, HEAD_BLOCK + 93)),
+    ),
+];
 
 #[test]
 fn a_record_that_may_not_stand_in_the_tail_is_found_last(rt: HostRuntime) -> Result<(), Fail> {
-    let alloc = rt.alloc();
-    let behind = Some((0, HEAD_BLOCK + 31));
-    assert_eq!(rt; wrong_with(alloc, epoch_start(1, 2), begin(2, 2, 2))?, None);
-    assert_eq!(rt;
-        wrong_with(alloc, epoch_start(1, 2), begin(2, 2, 1))?,
-        behind
-    );
-    assert_eq!(rt;
-        wrong_with(alloc, epoch_start(1, 2), barrier(2, 2, 2))?,
-        behind
-    );
-    let mut disk = MemDisk::new(alloc);
-    write_one(alloc, &mut disk, LOG0, head(1))?;
-    write_one(alloc, &mut disk, LOG0, epoch_start(1, 2))?;
-    write_one(alloc, &mut disk, LOG0, barrier(2, 2, 2))?;
-    write_one(alloc, &mut disk, LOG0, barrier(3, 2, 3))?;
-    assert_eq!(rt; wrong_at(&mut disk, alloc), behind);
-    write_one(alloc, &mut disk, LOG0, barrier(9, 2, 1))?;
-    assert_eq!(rt; wrong_at(&mut disk, alloc), Some((0, HEAD_BLOCK + 93)));
+    judge_each(&rt, rt.alloc(), &TAIL)?;
     Ok(())
 }
 
-// An operation at position 3 of the transaction of `begin`, which names this position before it.
-fn operation(alloc: Global, prev: u64) -> Result<Physical, NoMemory> {
-    let txn = TxnId {
-        epoch: epoch(2),
-        n: 1,
-    };
-    let op = Op::Unmake(Name::from_slice(alloc, b"d")?);
-    let prev = Lsn(prev);
-    Ok(logical(3, 2, Record::Operation { txn, prev, op }))
-}
-
-// Where a log is wrong that has this record behind an EpochStart and a Begin.
-fn wrong_behind_begin(alloc: Global, item: Physical) -> Result<Option<(u32, u64)>, LogError> {
-    let mut disk = MemDisk::new(alloc);
-    write_one(alloc, &mut disk, LOG0, head(1))?;
-    write_one(alloc, &mut disk, LOG0, epoch_start(1, 2))?;
-    write_one(alloc, &mut disk, LOG0, begin(2, 2, 2))?;
-    write_one(alloc, &mut disk, LOG0, item)?;
-    Ok(wrong_at(&mut disk, alloc))
-}
+const LINKS: [Case; 3] = [
+    (
+        &[
+            Item::EpochStart(1, 2, 2),
+            Item::Begin(2, 2, 2),
+            Item::Operation(2),
+        ],
+        None,
+    ),
+    (
+        &[
+            Item::EpochStart(1, 2, 2),
+            Item::Begin(2, 2, 2),
+            Item::Operation(1),
+        ],
+        AFTER_BEGIN,
+    ),
+    (
+        &[
+            Item::EpochStart(1, 2, 2),
+            Item::Begin(2, 2, 2),
+            Item::Begin(3, 2, 2),
+        ],
+        AFTER_BEGIN,
+    ),
+];
 
 #[test]
 fn a_wrong_link_is_found(rt: HostRuntime) -> Result<(), Fail> {
-    let alloc = rt.alloc();
-    // The block of the EpochStart has 31 bytes, that of the Begin 39.
-    let behind = Some((0, HEAD_BLOCK + 70));
-    assert_eq!(rt; wrong_behind_begin(alloc, operation(alloc, 2)?)?, None);
-    assert_eq!(rt; wrong_behind_begin(alloc, operation(alloc, 1)?)?, behind);
-    assert_eq!(rt; wrong_behind_begin(alloc, begin(3, 2, 2))?, behind);
+    judge_each(&rt, rt.alloc(), &LINKS)?;
     Ok(())
 }
 
-// Where a log is wrong whose first block has this payload.
-fn wrong_first(alloc: Global, payload: &[u8]) -> Result<Option<(u32, u64)>, LogError> {
-    let mut disk = MemDisk::new(alloc);
-    let (mut log, _blocks) = GatedLog::mount(alloc, &mut disk, LOG0)?;
-    if !payload.is_empty() && payload.len() <= 1_048_576 {
-        log.append(&mut disk, payload)?;
+fn play_each(rt: &impl Abort, alloc: Global, cases: &[&[Step]]) -> Result<(), LogError> {
+    for steps in cases {
+        play(rt, alloc, steps)?;
     }
-    Ok(wrong_at(&mut disk, alloc))
+    Ok(())
 }
+
+// The payloads of first blocks: a head, a head and more, heads of generations 2 and 0, no record, and a Fence.
+const FIRST_BLOCKS: [&[Step]; 6] = [
+    &[
+        Step::Payload(&[
+            6, 1, 0, 0, 0, 0, 0, 0, 0, 1, 0, 0, 0, 0, 0, 0, 0, 0, 0, 0, 0, 0, 0, 0, 0, 7,
+        ]),
+        Step::Holds(0, &[]),
+    ],
+    &[
+        Step::Payload(&[
+            6, 1, 0, 0, 0, 0, 0, 0, 0, 1, 0, 0, 0, 0, 0, 0, 0, 0, 0, 0, 0, 0, 0, 0, 0, 7, 2,
+        ]),
+        Step::Wrong(0, 0),
+    ],
+    &[
+        Step::Payload(&[
+            6, 1, 0, 0, 0, 0, 0, 0, 0, 2, 0, 0, 0, 0, 0, 0, 0, 0, 0, 0, 0, 0, 0, 0, 0, 7,
+        ]),
+        Step::Wrong(0, 0),
+    ],
+    &[
+        Step::Payload(&[
+            6, 1, 0, 0, 0, 0, 0, 0, 0, 0, 0, 0, 0, 0, 0, 0, 0, 0, 0, 0, 0, 0, 0, 0, 0, 7,
+        ]),
+        Step::Wrong(0, 0),
+    ],
+    &[Step::Payload(&[9]), Step::Wrong(0, 0)],
+    &[
+        Step::Payload(&[2, 0, 0, 0, 0, 0, 0, 0, 2]),
+        Step::Wrong(0, 0),
+    ],
+];
 
 #[test]
 fn a_first_block_is_a_heads(rt: HostRuntime) -> Result<(), Fail> {
-    let alloc = rt.alloc();
-    let first = Some((0, 0));
-    let good = [
-        6, 1, 0, 0, 0, 0, 0, 0, 0, 1, 0, 0, 0, 0, 0, 0, 0, 0, 0, 0, 0, 0, 0, 0, 0, 7,
-    ];
-    let with_more = [
-        6, 1, 0, 0, 0, 0, 0, 0, 0, 1, 0, 0, 0, 0, 0, 0, 0, 0, 0, 0, 0, 0, 0, 0, 0, 7, 2,
-    ];
-    let generation_2 = [
-        6, 1, 0, 0, 0, 0, 0, 0, 0, 2, 0, 0, 0, 0, 0, 0, 0, 0, 0, 0, 0, 0, 0, 0, 0, 7,
-    ];
-    let generation_0 = [
-        6, 1, 0, 0, 0, 0, 0, 0, 0, 0, 0, 0, 0, 0, 0, 0, 0, 0, 0, 0, 0, 0, 0, 0, 0, 7,
-    ];
-    assert_eq!(rt; wrong_first(alloc, &good)?, None);
-    assert_eq!(rt; wrong_first(alloc, &with_more)?, first);
-    assert_eq!(rt; wrong_first(alloc, &generation_2)?, first);
-    assert_eq!(rt; wrong_first(alloc, &generation_0)?, first);
-    assert_eq!(rt; wrong_first(alloc, &[9])?, first);
-    assert_eq!(rt; wrong_first(alloc, &[2, 0, 0, 0, 0, 0, 0, 0, 2])?, first);
+    play_each(&rt, rt.alloc(), &FIRST_BLOCKS)?;
     Ok(())
 }
 
+// First no first block is open in the first area, and then it has no head; generations that are equal; the greater one.
+const TWO_AREAS: [&[Step]; 3] = [
+    &[
+        Step::Block(1, &[Item::Head(1)]),
+        Step::Block(1, &[Item::Fence(4)]),
+        Step::Holds(4, &[]),
+        Step::Block(0, &[Item::Fence(5)]),
+        Step::Holds(4, &[]),
+    ],
+    &[
+        Step::Block(0, &[Item::Head(1)]),
+        Step::Block(1, &[Item::Head(1)]),
+        Step::Block(1, &[Item::Fence(4)]),
+        Step::Holds(0, &[]),
+    ],
+    &[
+        Step::Block(0, &[Item::Head(1)]),
+        Step::Block(1, &[Item::Head(2)]),
+        Step::Wrong(1, 0),
+    ],
+];
+
 #[test]
 fn the_area_of_the_greater_generation_is_taken(rt: HostRuntime) -> Result<(), Fail> {
-    let alloc = rt.alloc();
-    let mut disk = MemDisk::new(alloc);
-    write_one(alloc, &mut disk, LOG1, head(1))?;
-    write_one(alloc, &mut disk, LOG1, fence(4))?;
-    // No first block is open in the first area.
-    assert!(rt; holds(&mut disk, alloc, 7, 4, &[]));
-    // Its first block has no head.
-    write_one(alloc, &mut disk, LOG0, fence(5))?;
-    assert!(rt; holds(&mut disk, alloc, 7, 4, &[]));
-    let mut disk = MemDisk::new(alloc);
-    write_one(alloc, &mut disk, LOG0, head(1))?;
-    write_one(alloc, &mut disk, LOG1, head(1))?;
-    write_one(alloc, &mut disk, LOG1, fence(4))?;
-    // Generations that are equal.
-    assert!(rt; holds(&mut disk, alloc, 7, 0, &[]));
-    let mut disk = MemDisk::new(alloc);
-    write_one(alloc, &mut disk, LOG0, head(1))?;
-    write_one(alloc, &mut disk, LOG1, head(2))?;
-    assert_eq!(rt; wrong_at(&mut disk, alloc), Some((1, 0)));
+    play_each(&rt, rt.alloc(), &TWO_AREAS)?;
     Ok(())
+}
+
+// A block of an EpochStart and Barriers up to the position 3,999.
+fn write_thousands(alloc: Global, disk: &mut MemDisk) -> Result<(), LogError> {
+    let mut group = Group::new(alloc);
+    push(&mut group, plain(&Item::EpochStart(1, 1, 1)))?;
+    for lsn in 2..4000u64 {
+        push(&mut group, plain(&Item::Barrier(lsn, 1, lsn - 1)))?;
+    }
+    write(alloc, disk, LOG0, &mut group)
+}
+
+// How many records the disk's log has, and whether the last is this one.
+fn count_to(alloc: Global, disk: &mut MemDisk, item: &Item) -> (usize, bool) {
+    match LogStore::recover(alloc, disk, 99) {
+        Ok((_store, told)) => {
+            let records = told.records.as_slice();
+            match records.last() {
+                Some((had, record)) => (records.len(), is_item(*had, record, item)),
+                None => (0, false),
+            }
+        }
+        Err(_) => (0, false),
+    }
 }
 
 #[test]
 fn some_thousand_records_are_read(rt: HostRuntime) -> Result<(), Fail> {
-    let alloc = rt.alloc();
-    let mut disk = MemDisk::new(alloc);
-    write_one(alloc, &mut disk, LOG0, head(1))?;
-    let mut group = Group::new(alloc);
-    push(&mut group, epoch_start(1, 1))?;
-    for lsn in 2..4000u64 {
-        push(&mut group, barrier(lsn, 1, lsn - 1))?;
-    }
-    write(alloc, &mut disk, LOG0, &mut group)?;
-    match LogStore::recover(alloc, &mut disk, 99) {
-        Ok((_store, told)) => {
-            assert_eq!(rt; told.records.len(), 3999);
-            match told.records.as_slice().last() {
-                Some((had, record)) => {
-                    assert_eq!(rt; *had, epoch(1));
-                    assert!(rt; *record == Record::Barrier { stable: Lsn(3998) });
-                }
-                None => panic!(rt; "a record"),
-            }
-        }
-        Err(_) => panic!(rt; "the log is opened"),
-    }
+    let mut disk = MemDisk::new(rt.alloc());
+    write_items(rt.alloc(), &mut disk, LOG0, &[Item::Head(1)])?;
+    write_thousands(rt.alloc(), &mut disk)?;
+    let last = Item::Barrier(3999, 1, 3998);
+    assert_eq!(rt; count_to(rt.alloc(), &mut disk, &last), (3999, true));
     Ok(())
 }
 
@@ -440,23 +564,6 @@ fn first_group(alloc: Global) -> Result<Group, NoMemory>
     Ok(group)
 }
 
-// Whether the disk's log has the records of that group, or is new.
-fn has_first(disk: &mut MemDisk, alloc: Global) -> bool {
-    let items = [
-        (1, Record::EpochStart { epoch: epoch(1) }),
-        (
-            1,
-            Record::Begin {
-                txn: TxnId {
-                    epoch: epoch(1),
-                    n: 1,
-                },
-            },
-        ),
-    ];
-    holds(disk, alloc, 7, 4, &items)
-}
-
 // Appends that group to a new log. The device call of this number, counted from 1, fails and each later one.
 fn append_first(
     rt: &impl Abort,
@@ -480,59 +587,63 @@ fn append_first(
     }
 }
 
+// The records of that group.
+const FIRST: [Item; 2] = [Item::EpochStart(1, 1, 1), Item::Begin(2, 1, 1)];
+
 #[test]
 fn an_append_is_read(rt: HostRuntime) -> Result<(), Fail> {
-    let alloc = rt.alloc();
-    let mut disk = MemDisk::new(alloc);
-    assert_eq!(rt; append_first(&rt, alloc, &mut disk, 1000)?, Ok(()));
-    assert!(rt; has_first(&mut disk, alloc));
+    let mut disk = MemDisk::new(rt.alloc());
+    let result = append_first(&rt, rt.alloc(), &mut disk, 1000)?;
+    assert_eq!(rt; result, Ok(()));
+    assert!(rt; holds(rt.alloc(), &mut disk, 4, &FIRST));
     Ok(())
 }
 
-// An append that is stopped at the device call of this number, counted from 1, leaves all of the group or nothing of it.
+// An append that is stopped at the device call of this number, counted from 0, leaves all of the group or nothing of it.
 fn expect_stopped(
     rt: &impl Abort,
     alloc: Global,
     call: u8,
     pick: u8,
     is_there: bool,
-) -> Result<(), Fail>
-    requires { 1 ≤ call }
-{
+) -> Result<(), NoMemory> {
     let mut disk = MemDisk::new(alloc);
-    assert_eq!(rt;
-        append_first(rt, alloc, &mut disk, u64::from(call))?,
-        Err(LogError::Disk)
-    );
+    let result = append_first(rt, alloc, &mut disk, u64::from(call) + 1)?;
+    assert_eq!(rt; result, Err(LogError::Disk));
     disk.crash(u64::from(pick));
-    assert_eq!(rt; has_first(&mut disk, alloc), is_there);
-    assert_eq!(rt; holds(&mut disk, alloc, 7, 0, &[]), !is_there);
+    assert_eq!(rt; holds(alloc, &mut disk, 4, &FIRST), is_there);
+    assert_eq!(rt; holds(alloc, &mut disk, 0, &[]), !is_there);
     Ok(())
 }
 
-// The body and its sync are calls 1 and 2, the gate and its sync are calls 3 and 4.
+// The body and its sync are calls 0 and 1, the gate and its sync are calls 2 and 3.
+fn expect_all_stopped(rt: &impl Abort, alloc: Global) -> Result<(), NoMemory> {
+    for call in 0..4u8 {
+        for pick in 0..3u8 {
+            expect_stopped(rt, alloc, call, pick, call >= 2 && pick == 1)?;
+        }
+    }
+    Ok(())
+}
+
 #[test]
 fn a_stopped_append_leaves_all_or_nothing(rt: HostRuntime) -> Result<(), Fail> {
-    let alloc = rt.alloc();
-    for pick in 0..3u8 {
-        expect_stopped(&rt, alloc, 1, pick, false)?;
-        expect_stopped(&rt, alloc, 2, pick, false)?;
-        expect_stopped(&rt, alloc, 3, pick, pick == 1)?;
-        expect_stopped(&rt, alloc, 4, pick, pick == 1)?;
-    }
+    expect_all_stopped(&rt, rt.alloc())?;
     Ok(())
 }
 
+// A new disk fails at the call of this number, counted from 0, and the log is opened after a stop.
+fn expect_failing(rt: &impl Abort, alloc: Global, call: u8) {
+    let mut disk = MemDisk::new(alloc);
+    disk.arm(u64::from(call) + 1);
+    assert_eq!(rt; open(alloc, &mut disk, 7), Err(RecoverError::Disk));
+    disk.crash(1);
+    assert_eq!(rt; open(alloc, &mut disk, 7), Ok(()));
+}
+
 #[test]
-fn a_failing_disk_is_told(rt: HostRuntime) -> Result<(), Fail> {
-    let alloc = rt.alloc();
-    for call in 1..12u8 {
-        let mut disk = MemDisk::new(alloc);
-        disk.arm(u64::from(call));
-        let result = LogStore::recover(alloc, &mut disk, 7);
-        assert!(rt; matches!(&result, Err(RecoverError::Disk)));
-        disk.crash(1);
-        assert!(rt; LogStore::recover(alloc, &mut disk, 7).is_ok());
+fn a_failing_disk_is_told(rt: HostRuntime) {
+    for call in 0..11u8 {
+        expect_failing(&rt, rt.alloc(), call);
     }
-    Ok(())
 }

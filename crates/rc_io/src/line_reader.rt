@@ -35,7 +35,7 @@ impl Model for LineReader {
 }
 
 /// What a reader of lines answers.
-#[derive(Debug, Drop)]
+#[derive(Drop)]
 pub enum Next {
     /// The next line, by its number from 1 on, without its end.
     Line { number: u64, bytes: Bytes },

@@ -4,7 +4,7 @@ use super::*;
 use disk_model::{Disk, DiskError, LOG0, MemDisk};
 use rc_base::LimitName;
 use std::alloc::Global;
-use std::io::{self, ErrorKind, Read};
+use std::io::{self, ErrorKind, Read, Write};
 use std::test::*;
 
 // A source that gives at most so many bytes a read.
@@ -25,20 +25,57 @@ impl Source for Slow {
     }
 }
 
-// A reader whose first read is interrupted, and the second fails.
-#[derive(Drop)]
-struct Broken {
-    reads: u8,
+// What a stream of std does at a call. `Does` gives these bytes to a reader, and takes them from the front of a writer's
+// piece.
+#[derive(Clone, Copy)]
+enum Turn {
+    Interrupted,
+    Does(&'static [u8]),
 }
 
-impl Read for Broken {
-    fn read(&mut self, _buf: &mut [u8]) -> io::Result<usize> {
-        self.reads = self.reads.saturating_add(1);
-        Err(io::Error::from(if self.reads == 1 {
-            ErrorKind::Interrupted
+// A stream that does these in turn, and then fails, as where a piece has other bytes.
+#[derive(Drop)]
+struct Stream {
+    turns: &'static [Turn],
+}
+
+impl Stream {
+    fn next(&mut self) -> io::Result<&'static [u8]> {
+        match self.turns {
+            [Turn::Does(bytes), rest @ ..] => {
+                self.turns = rest;
+                Ok(bytes)
+            }
+            [Turn::Interrupted, rest @ ..] => {
+                self.turns = rest;
+                Err(io::Error::from(ErrorKind::Interrupted))
+            }
+            [] => Err(io::Error::from(ErrorKind::Other)),
+        }
+    }
+}
+
+impl Read for Stream {
+    fn read(&mut self, buf: &mut [u8]) -> io::Result<usize> {
+        let bytes = self.next()?;
+        let count = bytes.len().min(buf.len());
+        buf[..count].copy_from_slice(&bytes[..count]);
+        Ok(count)
+    }
+}
+
+impl Write for Stream {
+    fn write(&mut self, piece: &[u8]) -> io::Result<usize> {
+        let bytes = self.next()?;
+        if piece.starts_with(bytes) {
+            Ok(bytes.len())
         } else {
-            ErrorKind::Other
-        }))
+            Err(io::Error::from(ErrorKind::Other))
+        }
+    }
+
+    fn flush(&mut self) -> io::Result<()> {
+        Ok(())
     }
 }
 
@@ -111,69 +148,115 @@ fn lines_of_4096_and_4097_bytes(rt: HostRuntime) -> Result<(), Fail> {
     Ok(())
 }
 
+fn line_feeds(alloc: Global, count: usize) -> Result<MemSource, Fail> {
+    let bytes = vec![in alloc; b'\n'; count]?;
+    Ok(MemSource::new(bytes, Vec::new(alloc)))
+}
+
+// Whether so many lines are empty, and the limit that is reached after them.
+fn empty_lines(
+    reader: &mut LineReader,
+    source: &mut MemSource,
+    count: u64,
+) -> (bool, Option<(LimitName, u64)>) {
+    let mut same = true;
+    for number in 0..count {
+        same &= gives(reader, source, number + 1, b"");
+    }
+    (same, limit(reader, source))
+}
+
 #[test]
 fn a_million_lines(rt: HostRuntime) -> Result<(), Fail> {
-    let text = vec![in rt.alloc(); b'\n'; 1_000_001]?;
-    let mut source = source_of(rt.alloc(), &text)?;
+    let mut source = line_feeds(rt.alloc(), 1_000_001)?;
     let mut reader = LineReader::new(rt.alloc())?;
-    let mut same = true;
-    for number in 1..1_000_001u64 {
-        same &= gives(&mut reader, &mut source, number, b"");
-    }
-    assert!(rt; same);
-    assert_eq!(rt;
-        limit(&mut reader, &mut source),
-        Some((LimitName::Lines, 1_000_001))
-    );
+    let told = empty_lines(&mut reader, &mut source, 1_000_000);
+    assert_eq!(rt; told, (true, Some((LimitName::Lines, 1_000_001))));
     Ok(())
+}
+
+// One line, in a source whose second call fails.
+fn failing_source(alloc: Global) -> Result<MemSource, Fail> {
+    let fails = Vec::from_slice(alloc, &[2])?;
+    Ok(MemSource::new(Vec::from_slice(alloc, b"one\n")?, fails))
 }
 
 #[test]
 fn a_source_that_fails(rt: HostRuntime) -> Result<(), Fail> {
-    let bytes = Vec::from_slice(rt.alloc(), b"one\n")?;
-    let mut source = MemSource::new(bytes, Vec::from_slice(rt.alloc(), &[2])?);
+    let mut source = failing_source(rt.alloc())?;
     let mut reader = LineReader::new(rt.alloc())?;
-    assert!(rt; gives(&mut reader, &mut source, 1, b"one"));
-    assert!(rt; matches!(reader.next(&mut source), Next::Failed));
+    let first = gives(&mut reader, &mut source, 1, b"one");
+    assert!(rt; first && matches!(reader.next(&mut source), Next::Failed));
     Ok(())
 }
 
 #[test]
 fn a_sink_that_fails(rt: HostRuntime) -> Result<(), Fail> {
     let mut sink = MemSink::new(rt.alloc(), Some(5), Vec::from_slice(rt.alloc(), &[2])?);
-    assert_eq!(rt; write_all(&mut sink, b"abc"), Ok(()));
-    assert_eq!(rt; write_all(&mut sink, b"d"), Err(Failed));
-    assert_eq!(rt; write_all(&mut sink, b"efg"), Err(Failed));
+    let told = [
+        write_all(&mut sink, b"abc"),
+        write_all(&mut sink, b"d"),
+        write_all(&mut sink, b"efg"),
+    ];
+    assert_eq!(rt; told, [Ok(()), Err(Failed), Err(Failed)]);
     assert_eq!(rt; sink.bytes(), b"abcef".as_slice());
     Ok(())
 }
 
+const READS: [Turn; 3] = [Turn::Interrupted, Turn::Does(b"xy"), Turn::Does(b"z")];
+
+// A read that was interrupted is tried again, and the bytes come in their pieces.
 #[test]
-fn streams_of_std(rt: HostRuntime) -> Result<(), Fail> {
-    let mut source = ReadSource::new(b"x".as_slice());
-    let mut reader = LineReader::new(rt.alloc())?;
-    assert!(rt; gives(&mut reader, &mut source, 1, b"x"));
-    assert!(rt; ends(&mut reader, &mut source));
-    let mut broken = ReadSource::new(Broken { reads: 0 });
-    assert_eq!(rt; broken.read(&mut [0; 4]), Err(Failed));
-    let mut sink = WriteSink::new(Vec::new(rt.alloc()));
+fn a_reader_of_std(rt: HostRuntime) {
+    let mut source = ReadSource::new(Stream { turns: &READS });
+    let mut buf = [0; 4];
+    let told = [source.read(&mut buf), source.read(&mut buf[2..])];
+    assert_eq!(rt; told, [Ok(2), Ok(1)]);
+    assert_eq!(rt; buf, [b'x', b'y', b'z', 0]);
+    assert_eq!(rt; source.read(&mut buf), Err(Failed));
+}
+
+const WRITES: [Turn; 4] = [
+    Turn::Does(b"wh"),
+    Turn::Interrupted,
+    Turn::Does(b"ole"),
+    Turn::Does(b""),
+];
+
+// A write that was interrupted is tried again with the same bytes. One that takes nothing is a fault.
+#[test]
+fn a_writer_of_std(rt: HostRuntime) {
+    let mut sink = WriteSink::new(Stream { turns: &WRITES });
     assert_eq!(rt; write_all(&mut sink, b"whole"), Ok(()));
-    Ok(())
+    assert_eq!(rt; write_all(&mut sink, b"x"), Err(Failed));
 }
 
 // The length of the first area of a folder's disk.
-fn log_len<H: Host>(host: &mut H, folder: &str) -> Result<u64, DiskError> {
+fn log_len(host: &mut MemHost, folder: &str) -> Result<u64, DiskError> {
     host.store(folder)?.len(LOG0)
+}
+
+fn disk_of_four_bytes(alloc: Global) -> Result<MemDisk, DiskError> {
+    let mut disk = MemDisk::new(alloc);
+    disk.write_at(LOG0, 0, b"kept")?;
+    Ok(disk)
+}
+
+// A host with one folder, whose second call fails.
+fn failing_host(alloc: Global) -> Result<MemHost, Fail> {
+    let mut host = MemHost::new(alloc, Vec::from_slice(alloc, &[2])?);
+    host.add("a", disk_of_four_bytes(alloc)?)?;
+    Ok(host)
 }
 
 #[test]
 fn folders_in_memory(rt: HostRuntime) -> Result<(), Fail> {
-    let mut host = MemHost::new(rt.alloc(), Vec::from_slice(rt.alloc(), &[2])?);
-    let mut disk = MemDisk::new(rt.alloc());
-    disk.write_at(LOG0, 0, b"kept").map_err(|_| "no room")?;
-    host.add("a", disk)?;
-    assert_eq!(rt; log_len(&mut host, "a"), Ok(4));
-    assert_eq!(rt; log_len(&mut host, "a"), Err(DiskError::Failed));
-    assert_eq!(rt; log_len(&mut host, "b"), Ok(0));
+    let mut host = failing_host(rt.alloc())?;
+    let told = [
+        log_len(&mut host, "a"),
+        log_len(&mut host, "a"),
+        log_len(&mut host, "b"),
+    ];
+    assert_eq!(rt; told, [Ok(4), Err(DiskError::Failed), Ok(0)]);
     Ok(())
 }

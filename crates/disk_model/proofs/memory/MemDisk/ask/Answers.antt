@@ -5,6 +5,8 @@ use Rattle.disk_model.specs.Changes.{held, room, done, reach, left_of, MayLeave}
 use Rattle.disk_model.specs.declared.change.Change.{Change}
 use Rattle.disk_model.proofs.Areas.{where_ok}
 use Rattle.disk_model.proofs.Images.{follows_same, follows_change, changes_same, changes_with, done_push, reach_push}
+use Rattle.disk_model.specs.KeptBy.{kept_by}
+use Rattle.disk_model.proofs.Keeping.{asks, armed_asks}
 use Rattle.disk_model.proofs.memory.MemDisk.ask.Goals as goal
 
 pub returns-then-self-clause-stop : goal.returns-then-self-clause-stop
@@ -87,3 +89,23 @@ returns-clause-stop c =
     let applied : held c.apply_to.new.areas ≡ with_area change.area (left_of change.edit 1) (held m.shown) = c.apply_to.ensures.held ∙ ap (with_area change.area (left_of change.edit 1)) told.shown in
     follows_change m.pending.items c.push-2.new.self.items change (held m.synced) (held c.take_room.new.synced) (held m.shown) (held c.apply_to.new.areas) grows told.synced
     (subst (λ (a : Areas). Changes change.area (MayLeave change.edit) (held m.shown) a) (sym applied) (changes_with change.area change.edit 1 (held m.shown)))
+
+pub returns-then-not-take_turn-clause-kept : goal.returns-then-not-take_turn-clause-kept
+returns-then-not-take_turn-clause-kept c = λ _.
+    let m = c.args.self.now in
+    let change = c.args.change in
+    let told = c.take_room.ensures in
+    let turn = c.take_turn.ensures in
+    let failed = turn.fails c.if-not-take_turn.true in
+    let grows : c.push.new.self.items ≡ m.pending.items ++ change ∷ [] = where_ok c.push.result _ _ _ (c.push.ensures.succeeds c.in_ok-take_room.ensures.spare) c.push.ensures.items ∙ ap (λ (l : List Change). l ++ change ∷ []) told.pending in
+    armed_asks change (kept_by m) (record { shown = held c.take_room.new.shown; synced = held c.take_room.new.synced; pending = c.push.new.self.items; calls_left = c.take_turn.new.calls_left; failed = c.take_turn.new.failed }) c.if-self.false failed.0 told.shown told.synced grows turn.counts failed.1
+
+pub returns-clause-kept : goal.returns-clause-kept
+returns-clause-kept c = λ _.
+    let m = c.args.self.now in
+    let change = c.args.change in
+    let told = c.take_room.ensures in
+    let turn = c.take_turn.ensures in
+    let goes_on = turn.does c.if-not-take_turn.false in
+    let grows : c.push-2.new.self.items ≡ m.pending.items ++ change ∷ [] = where_ok c.push-2.result _ _ _ (c.push-2.ensures.succeeds c.in_ok-take_room.ensures.spare) c.push-2.ensures.items ∙ ap (λ (l : List Change). l ++ change ∷ []) told.pending in
+    asks change (kept_by m) (record { shown = held c.apply_to.new.areas; synced = held c.take_room.new.synced; pending = c.push-2.new.self.items; calls_left = c.take_turn.new.calls_left; failed = c.take_turn.new.failed }) c.if-self.false goes_on.2 (c.apply_to.ensures.held ∙ ap (with_area change.area (left_of change.edit 1)) told.shown) told.synced grows turn.counts goes_on.1
