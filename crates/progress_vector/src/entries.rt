@@ -5,7 +5,7 @@ use std::alloc::{AllocError, Global};
 use std::marker::Model;
 
 /// Epochs in order, each with the position of the record that starts it. Contracts see the list of them.
-#[derive(Debug, Drop)]
+#[derive(Drop)]
 pub struct Entries {
     entries: Vec<(Epoch, Lsn)>,
 }
@@ -52,7 +52,7 @@ impl Entries {
         &self.entries
     }
 
-    /// One more, behind the others.
+    /// One more, after the others.
     ///
     /// # Errors
     /// `NoMemory`, and then the entries are as before.

@@ -1,7 +1,7 @@
 ghost use Rattle.std.specs.Prelude.{◌≡◌, IfOk};
 
 use super::*;
-use rc_base::{Epoch, Lsn};
+use rc_base::{Epoch, Lsn, NoMemory};
 use std::alloc::Global;
 use std::test::*;
 
@@ -27,55 +27,51 @@ fn vector(alloc: Global, base: u64, last: u64, starts: &[(u32, u64)]) -> Result<
     })
 }
 
-fn mode_of(
-    alloc: Global,
-    source: (u64, u64, &[(u32, u64)]),
-    target: (u64, u64, &[(u32, u64)]),
-) -> Result<Mode, Fail> {
+// The base, the last position, and the epochs with their starts.
+type Shape = (u64, u64, &'static [(u32, u64)]);
+
+fn mode_of(alloc: Global, source: Shape, target: Shape) -> Result<Mode, Fail> {
     let source = vector(alloc, source.0, source.1, source.2)?;
     let target = vector(alloc, target.0, target.1, target.2)?;
     Ok(copy_mode(&source, &target))
 }
 
-#[test]
-fn copy_mode_table(rt: HostRuntime) -> Result<(), Fail> {
-    let alloc = rt.alloc();
-    let none: [(u32, u64); 0] = [];
-    let first = [(1, 1)];
-    assert_eq!(rt; mode_of(alloc, (0, 5, &first), (0, 5, &first))?, Mode::Same);
-    assert_eq!(rt; mode_of(alloc, (0, 5, &first), (0, 7, &first))?, Mode::Same);
-    assert_eq!(rt; mode_of(alloc, (0, 0, &none), (0, 0, &none))?, Mode::Same);
-    let other = mode_of(alloc, (0, 4, &[(2, 1)]), (0, 3, &first))?;
-    assert_eq!(rt; other, Mode::Undo { fork: Lsn(0) });
-    assert_eq!(rt; mode_of(alloc, (6, 9, &first), (0, 4, &first))?, Mode::Full);
-    let behind = mode_of(alloc, (6, 9, &first), (0, 6, &first))?;
-    assert_eq!(rt; behind, Mode::Partial { from: Lsn(6) });
-    let false_progress = mode_of(alloc, (0, 9, &[(1, 1), (2, 8)]), (0, 10, &first))?;
-    assert_eq!(rt; false_progress, Mode::Undo { fork: Lsn(7) });
-    Ok(())
-}
+const ONE: &[(u32, u64)] = &[(1, 1)];
+
+const SOURCE: &[(u32, u64)] = &[(1, 1), (2, 4), (4, 9)];
+
+const TARGET: &[(u32, u64)] = &[(1, 1), (2, 4), (3, 6)];
+
+const MODES: [(Shape, Shape, Mode); 12] = [
+    ((0, 5, ONE), (0, 5, ONE), Mode::Same),
+    ((0, 5, ONE), (0, 7, ONE), Mode::Same),
+    ((0, 0, &[]), (0, 0, &[]), Mode::Same),
+    ((0, 4, &[(2, 1)]), (0, 3, ONE), Mode::Undo { fork: Lsn(0) }),
+    ((6, 9, ONE), (0, 4, ONE), Mode::Full),
+    ((6, 9, ONE), (0, 6, ONE), Mode::Partial { from: Lsn(6) }),
+    // the target's last records were never in the source
+    (
+        (0, 9, &[(1, 1), (2, 8)]),
+        (0, 10, ONE),
+        Mode::Undo { fork: Lsn(7) },
+    ),
+    // a base at the fork, and bases above it
+    ((5, 12, SOURCE), (3, 8, TARGET), Mode::Undo { fork: Lsn(5) }),
+    ((6, 12, SOURCE), (3, 8, TARGET), Mode::Full),
+    ((0, 12, SOURCE), (6, 8, TARGET), Mode::Full),
+    (
+        (0, 8, &[(2, 3)]),
+        (0, 8, &[(1, 2)]),
+        Mode::Undo { fork: Lsn(1) },
+    ),
+    ((9, 5, ONE), (0, 5, ONE), Mode::Full),
+];
 
 #[test]
-fn bases_above_forks(rt: HostRuntime) -> Result<(), Fail> {
-    let alloc = rt.alloc();
-    let source = [(1, 1), (2, 4), (4, 9)];
-    let target = [(1, 1), (2, 4), (3, 6)];
-    let at_fork = mode_of(alloc, (5, 12, &source), (3, 8, &target))?;
-    assert_eq!(rt; at_fork, Mode::Undo { fork: Lsn(5) });
-    assert_eq!(rt;
-        mode_of(alloc, (6, 12, &source), (3, 8, &target))?,
-        Mode::Full
-    );
-    assert_eq!(rt;
-        mode_of(alloc, (0, 12, &source), (6, 8, &target))?,
-        Mode::Full
-    );
-    let below_all = mode_of(alloc, (0, 8, &[(2, 3)]), (0, 8, &[(1, 2)]))?;
-    assert_eq!(rt; below_all, Mode::Undo { fork: Lsn(1) });
-    assert_eq!(rt;
-        mode_of(alloc, (9, 5, &[(1, 1)]), (0, 5, &[(1, 1)]))?,
-        Mode::Full
-    );
+fn copy_mode_table(rt: HostRuntime) -> Result<(), Fail> {
+    for (source, target, mode) in MODES {
+        assert_eq!(rt; mode_of(rt.alloc(), source, target)?, mode);
+    }
     Ok(())
 }
 
@@ -106,26 +102,44 @@ fn cut_at_each_place(rt: HostRuntime) -> Result<(), Fail> {
     Ok(())
 }
 
-#[test]
-fn a_vector_grows(rt: HostRuntime) -> Result<(), Fail> {
+// A new vector, with two epochs and a record between their starts.
+fn grown(alloc: Global) -> Result<Vector, NoMemory>
+    ensures base { IfOk result (λ v. v.base.0 ≡ 0) }
+    ensures last { IfOk result (λ v. v.last.0 ≡ 3) }
+{
     let mut v = Vector {
         base: Lsn(0),
-        entries: Entries::new(rt.alloc()),
+        entries: Entries::new(alloc),
         last: Lsn(0),
     };
     v.start_epoch(epoch(1))?;
     v.advance();
     v.start_epoch(epoch(2))?;
+    Ok(v)
+}
+
+#[test]
+fn a_vector_grows(rt: HostRuntime) -> Result<(), Fail> {
+    let v = grown(rt.alloc())?;
     assert_eq!(rt; v.last, Lsn(3));
     assert_eq!(rt;
-        v.entries.as_slice(),
+        v.entries.into_vec().as_slice(),
         [(epoch(1), Lsn(1)), (epoch(2), Lsn(3))].as_slice()
     );
-    let kept = v.clone()?;
-    v.trim_to(Lsn(2));
-    assert_eq!(rt; v.base, Lsn(2));
-    assert_eq!(rt; kept.base, Lsn(0));
-    assert_eq!(rt; kept.entries.into_vec().as_slice(), v.entries.as_slice());
+    Ok(())
+}
+
+// The bases of a vector and of a copy that is trimmed.
+fn bases(alloc: Global) -> Result<(Lsn, Lsn), NoMemory> {
+    let v = grown(alloc)?;
+    let mut copy = v.clone()?;
+    copy.trim_to(Lsn(2));
+    Ok((v.base, copy.base))
+}
+
+#[test]
+fn a_copy_is_trimmed(rt: HostRuntime) -> Result<(), Fail> {
+    assert_eq!(rt; bases(rt.alloc())?, (Lsn(0), Lsn(2)));
     Ok(())
 }
 

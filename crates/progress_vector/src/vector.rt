@@ -6,7 +6,7 @@ use std::alloc::AllocError;
 
 /// What a replica's log has: the position from which on it is kept, the epochs with their starts from the log's first
 /// record on, and the last position.
-#[derive(Debug, Drop)]
+#[derive(Drop)]
 pub struct Vector {
     pub base: Lsn,
     pub entries: Entries,
