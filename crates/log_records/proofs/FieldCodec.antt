@@ -3,7 +3,7 @@ use Rattle.std.proofs.Common.{◌≡◌, ℕ, ◌+◌, ◌-◌, ◌^◌, ◌<◌
 use Rattle.std.specs.Prelude.{IsTrue}
 use Rattle.std.specs.Int.{Width, w8, w32, w64, w128, to_be_bytes}
 use Rattle.std.specs.List.{list_all}
-use Rattle.std.proofs.lemmas.Bool.{leb-true, cases_lt}
+use Rattle.std.proofs.lemmas.Bool.{and_parts, leb-true, cases_lt}
 use Rattle.std.proofs.lemmas.List.{append-nil}
 use Rattle.rc_base.specs.declared.ids.Epoch.{Epoch}
 use Rattle.rc_base.specs.declared.ids.TxnId.{TxnId}
@@ -113,15 +113,11 @@ module _ (w : Width) (limit : ℕ) (wide : IsWide w limit) (max : ℕ) (test : L
       let taken : field r (bytes_at w max r.rest) ≡ done (t, in_front r rest) = ap (field r) (ap (bytes_at w max) e2 ∙ bytes_again w limit wide max t rest le (omega arith)) in
       (in_front r rest, ap (λ (z : Result (List ℕ × Reader) ℕ). z >>= λ word. cond (test word.0) (done word) (Err r.place)) taken ∙ ap (λ (b : Bool). cond b (done (t, in_front r rest)) (Err r.place)) fits, refl)
 
-both : (a b : Bool) → (a && b) ≡ true → (a ≡ true) × (b ≡ true)
-both true b h = (refl, h)
-both false b h = absurd cc
-
 pub name_bound : (t : List ℕ) → IsTrue (is_name t) → length t ≤ 64
-name_bound t h = leb-true (length t) 64 (both (leb 1 (length t)) (leb (length t) 64) (both (leb 1 (length t) && leb (length t) 64) (list_all is_name_letter t) h).0).1
+name_bound t h = leb-true (length t) 64 (and_parts (leb 1 (length t)) (leb (length t) 64) (and_parts (leb 1 (length t) && leb (length t) 64) (list_all is_name_letter t) h).0).1
 
 pub key_bound : (t : List ℕ) → IsTrue (is_key t) → length t ≤ 128
-key_bound t h = leb-true (length t) 128 (both (leb 1 (length t)) (leb (length t) 128) h).1
+key_bound t h = leb-true (length t) 128 (and_parts (leb 1 (length t)) (leb (length t) 128) h).1
 
 pub value_bound : (t : List ℕ) → IsTrue (is_value t) → length t ≤ 1024
 value_bound t h = leb-true (length t) 1024 h
@@ -210,7 +206,7 @@ slot_takes r x after small e =
     pick (λ q. gave 0 q) 0 bytes_of IsSlot (leaf 0 0 bytes_of IsSlot (lit< tt) refl) r t.0.1 after x t.0.0 s (cond (eqb t.0.0 1) (gave 1 t.0.1) (Err r.place))
     (λ e2. pick (λ q. gave 1 q) 1 bytes_of IsSlot (leaf 1 1 bytes_of IsSlot (lit< tt) refl) r t.0.1 after x t.0.0 s (Err r.place) (λ e3. nothing r.place x after e3) e2) t.2
 
-slot_cases : (n : ℕ) → n < 2 → (n ≡ 0) ⊎ (n ≡ 1)
+pub slot_cases : (n : ℕ) → n < 2 → (n ≡ 0) ⊎ (n ≡ 1)
 slot_cases n lt = elim (cases_lt n 1) [ inl a ↦ inl (omega arith) | inr b ↦ inr (omega arith) ]
 
 slot_0_again : (r : Reader) (rest : List ℕ) → r.rest ≡ joined (bytes_of 0) ++ rest → (after : Reader) × (read_slot r ≡ Ok (0, after)) × (after.rest ≡ rest)

@@ -1,13 +1,13 @@
 ghost use Rattle.std.specs.Prelude.{◌≡◌, ◌++◌, ◌∷◌, [], OnOk, OnErr, filter, nat_le};
 
 use coll_model::Op;
-use rc_base::{Lsn, NoMemory, TxnId};
+use rc_base::{Lsn, NoMemory, Seq, TxnId};
 use std::alloc::{AllocError, Global};
 use std::marker::Model;
 
 /// Operations in the order in which they were logged, each with the position of its record. Contracts see the list
 /// of them.
-#[derive(Debug, Drop)]
+#[derive(Drop)]
 pub struct LoggedOps {
     ops: Vec<(Lsn, Op)>,
 }
@@ -47,7 +47,7 @@ impl LoggedOps {
         ops
     }
 
-    /// One more, behind the others.
+    /// One more, after the others.
     ///
     /// # Errors
     /// `NoMemory`, and then the operations are as before.
@@ -90,8 +90,8 @@ impl Clone for LoggedOps {
     }
 }
 
-/// A transaction that is pending: it began, and neither its End nor the start of an epoch stands behind its Begin.
-#[derive(Debug, Drop)]
+/// A transaction that is pending: it began, and neither its End nor the start of an epoch stands after its Begin.
+#[derive(Drop)]
 pub struct PendingTxn {
     pub txn: TxnId,
     /// The position of its Begin.
@@ -111,72 +111,5 @@ impl Clone for PendingTxn {
     }
 }
 
-/// The transactions that are pending at a position of a log, by rising transaction. Contracts see the list of them.
-#[derive(Debug, Drop)]
-pub struct Pending {
-    txns: Vec<PendingTxn>,
-}
-
-impl Model for Pending {
-    ghost use Rattle.std.specs.Prelude.{List};
-    ghost use Rattle.log_records.specs.declared.pending.PendingTxn.{PendingTxn};
-
-    ghost Value = { List PendingTxn };
-
-    ghost view = { λ p. p.txns.items };
-}
-
-impl Pending {
-    /// No transactions. It takes no memory.
-    pub fn new(alloc: Global) -> Pending
-        ensures { result ≡ [] }
-    {
-        Pending {
-            txns: Vec::new(alloc),
-        }
-    }
-
-    /// The transactions of a vector, without a copy.
-    pub fn from_vec(txns: Vec<PendingTxn>) -> Pending
-        ensures { result ≡ txns.items }
-    {
-        Pending { txns }
-    }
-
-    /// The vector again, without a copy.
-    pub fn into_vec(self) -> Vec<PendingTxn>
-        ensures { result.items ≡ self }
-    {
-        let Pending { txns } = self;
-        txns
-    }
-
-    /// One more, behind the others.
-    ///
-    /// # Errors
-    /// `NoMemory`, and then the list is as before.
-    pub fn push(&mut self, txn: PendingTxn) -> Result<(), NoMemory>
-        ensures ok { OnOk result (self.new ≡ self.old ++ txn ∷ []) }
-        ensures err { OnErr result (self.new ≡ self.old) }
-    {
-        self.txns.push(txn)?;
-        Ok(())
-    }
-
-    /// The transactions.
-    pub fn as_slice(&self) -> &[PendingTxn]
-        ensures { result.now ≡ self.now }
-    {
-        &self.txns
-    }
-}
-
-impl Clone for Pending {
-    ghost is_clone = { λ x y. y ≡ x };
-
-    fn clone(&self) -> Result<Pending, AllocError> {
-        Ok(Pending {
-            txns: self.txns.clone()?,
-        })
-    }
-}
+/// The transactions that are pending at a position of a log, by rising transaction.
+pub type Pending = Seq<PendingTxn>;

@@ -18,20 +18,15 @@ const BARRIER: [u8; 26] = [
 
 const FENCE: [u8; 9] = [2, 0, 0, 0, 0, 0, 0, 0, 2];
 
-fn name(alloc: Global) -> Result<Name, AllocError> {
-    Ok(Name::from_vec(Vec::from_slice(alloc, b"d")?))
+fn make(alloc: Global) -> Result<Op, NoMemory> {
+    Ok(Op::Make(Name::from_slice(alloc, b"d")?, Kind::Dict))
 }
 
-fn bytes(alloc: Global, text: &[u8]) -> Result<Bytes, AllocError> {
-    Ok(Bytes::from_vec(Vec::from_slice(alloc, text)?))
-}
-
-fn make(alloc: Global) -> Result<Op, AllocError> {
-    Ok(Op::Make(name(alloc)?, Kind::Dict))
-}
-
-fn put(alloc: Global) -> Result<Op, AllocError> {
-    Ok(Op::Put(name(alloc)?, bytes(alloc, b"k")?, bytes(alloc, b"v")?))
+fn put(alloc: Global) -> Result<Op, NoMemory> {
+    let name = Name::from_slice(alloc, b"d")?;
+    let key = Bytes::from_slice(alloc, b"k")?;
+    let value = Bytes::from_slice(alloc, b"v")?;
+    Ok(Op::Put(name, key, value))
 }
 
 fn end() -> Record {
@@ -126,7 +121,7 @@ fn wrong_physical(alloc: Global, text: &[u8]) -> u64 {
     }
 }
 
-// The place at which `front` with `count` letters behind it is no operation, or 99.
+// The place at which `front` with `count` letters after it is no operation, or 99.
 fn wrong_with_letters(alloc: Global, front: &[u8], count: usize) -> Result<u64, AllocError> {
     let mut text = Vec::from_slice(alloc, front)?;
     for _ in 0..count {
@@ -135,58 +130,68 @@ fn wrong_with_letters(alloc: Global, front: &[u8], count: usize) -> Result<u64, 
     Ok(wrong_op(alloc, &text))
 }
 
+// Whether the operation is written as the text, and read from it.
+fn is_op(alloc: Global, item: Op, text: &[u8]) -> Result<bool, NoMemory> {
+    Ok(spells_op(alloc, &item, text)? && reads_op(alloc, text, &item))
+}
+
+fn is_record(alloc: Global, body: Record, text: &[u8]) -> Result<bool, NoMemory> {
+    Ok(spells_record(alloc, &body, text)? && reads_record(alloc, text, &body))
+}
+
+fn is_physical(alloc: Global, item: Physical, text: &[u8]) -> Result<bool, NoMemory> {
+    Ok(spells_physical(alloc, &item, text)? && reads_physical(alloc, text, &item))
+}
+
 #[test]
 fn operations(rt: HostRuntime) -> Result<(), Fail> {
-    let make = make(rt.alloc())?;
-    assert!(rt; spells_op(rt.alloc(), &make, &MAKE)?);
-    assert!(rt; reads_op(rt.alloc(), &MAKE, &make));
-    let put = put(rt.alloc())?;
-    assert!(rt; spells_op(rt.alloc(), &put, &PUT)?);
-    assert!(rt; reads_op(rt.alloc(), &PUT, &put));
+    assert!(rt; is_op(rt.alloc(), make(rt.alloc())?, &MAKE)?);
+    assert!(rt; is_op(rt.alloc(), put(rt.alloc())?, &PUT)?);
     Ok(())
 }
 
 #[test]
 fn records(rt: HostRuntime) -> Result<(), Fail> {
-    let end = end();
-    assert!(rt; spells_record(rt.alloc(), &end, &END)?);
-    assert!(rt; reads_record(rt.alloc(), &END, &end));
+    assert!(rt; is_record(rt.alloc(), end(), &END)?);
     Ok(())
 }
 
 #[test]
 fn physical_records(rt: HostRuntime) -> Result<(), Fail> {
-    let barrier = barrier();
-    assert!(rt; spells_physical(rt.alloc(), &barrier, &BARRIER)?);
-    assert!(rt; reads_physical(rt.alloc(), &BARRIER, &barrier));
-    assert!(rt; reads_physical(rt.alloc(), &FENCE, &fence()));
+    assert!(rt; is_physical(rt.alloc(), barrier(), &BARRIER)?);
+    assert!(rt; is_physical(rt.alloc(), fence(), &FENCE)?);
     Ok(())
 }
 
 #[test]
 fn prefixes(rt: HostRuntime) {
-    for count in 0..4usize {
-        assert!(rt; wrong_op(rt.alloc(), &MAKE[..count]) < 99);
+    for text in [MAKE.as_slice(), &PUT] {
+        for count in 0..text.len() {
+            assert!(rt; wrong_op(rt.alloc(), &text[..count]) < 99);
+        }
     }
-    for count in 0..13usize {
-        assert!(rt; wrong_op(rt.alloc(), &PUT[..count]) < 99);
-    }
-    for count in 0..26usize {
-        assert!(rt; wrong_physical(rt.alloc(), &BARRIER[..count]) < 99);
-    }
-    for count in 0..9usize {
-        assert!(rt; wrong_physical(rt.alloc(), &FENCE[..count]) < 99);
+    for text in [BARRIER.as_slice(), &FENCE] {
+        for count in 0..text.len() {
+            assert!(rt; wrong_physical(rt.alloc(), &text[..count]) < 99);
+        }
     }
 }
 
+// Bytes that are no operation, and the place where that is seen: an unknown form, an unknown kind, a name of no letters, a
+// letter that no name has, a key of no bytes.
+const WRONG_OPS: [(&[u8], u64); 5] = [
+    (&[7], 0),
+    (&[1, 1, b'd', 3], 3),
+    (&[2, 0, b'd'], 1),
+    (&[2, 1, b'D'], 1),
+    (&[4, 1, b'd', 0, 0, 0, 0], 3),
+];
+
 #[test]
 fn malformed(rt: HostRuntime) {
-    // an unknown form, an unknown kind, a name of no letters, a letter that no name has, a key of no bytes
-    assert_eq!(rt; wrong_op(rt.alloc(), &[7]), 0);
-    assert_eq!(rt; wrong_op(rt.alloc(), &[1, 1, b'd', 3]), 3);
-    assert_eq!(rt; wrong_op(rt.alloc(), &[2, 0, b'd']), 1);
-    assert_eq!(rt; wrong_op(rt.alloc(), &[2, 1, b'D']), 1);
-    assert_eq!(rt; wrong_op(rt.alloc(), &[4, 1, b'd', 0, 0, 0, 0]), 3);
+    for (text, place) in WRONG_OPS {
+        assert_eq!(rt; wrong_op(rt.alloc(), text), place);
+    }
     // a slot of 2, a log of format 2, an end that is neither
     assert_eq!(rt; wrong_physical(rt.alloc(), &[4, 2, 0, 0]), 1);
     assert_eq!(rt; wrong_physical(rt.alloc(), &[6, 2, 0, 0]), 1);
@@ -195,17 +200,17 @@ fn malformed(rt: HostRuntime) {
     assert_eq!(rt; wrong_record(rt.alloc(), &text), 25);
 }
 
+// The front of an operation and how many letters follow: a name of 65 letters, a key of 129 bytes, a value of 1,025 bytes.
+const TOO_LONG: [(&[u8], usize, u64); 3] = [
+    (&[2, 65], 65, 1),
+    (&[4, 1, b'd', 0, 0, 0, 129], 129, 3),
+    (&[5, 1, b'd', 0, 0, 4, 1], 1025, 3),
+];
+
 #[test]
 fn too_long(rt: HostRuntime) -> Result<(), Fail> {
-    // a name of 65 letters, a key of 129 bytes, a value of 1,025 bytes
-    assert_eq!(rt; wrong_with_letters(rt.alloc(), &[2, 65], 65)?, 1);
-    assert_eq!(rt;
-        wrong_with_letters(rt.alloc(), &[4, 1, b'd', 0, 0, 0, 129], 129)?,
-        3
-    );
-    assert_eq!(rt;
-        wrong_with_letters(rt.alloc(), &[5, 1, b'd', 0, 0, 4, 1], 1025)?,
-        3
-    );
+    for (front, count, place) in TOO_LONG {
+        assert_eq!(rt; wrong_with_letters(rt.alloc(), front, count)?, place);
+    }
     Ok(())
 }
