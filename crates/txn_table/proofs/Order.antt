@@ -29,6 +29,3 @@ same_txn a b h = (grind (arith, nat_tests), grind (arith, nat_tests), grind (ari
 
 pub lt_not_same : (a b : TxnId) → txn_lt a b ≡ true → is_txn b a ≡ false
 lt_not_same a b h = grind (arith, nat_tests)
-
-pub same_turned : (a b : TxnId) → is_txn a b ≡ is_txn b a
-same_turned a b = grind (arith, nat_tests)

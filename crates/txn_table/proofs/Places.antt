@@ -6,9 +6,10 @@ use Rattle.std.proofs.lemmas.Bool.Decides.{nat_tests}
 use Rattle.rc_base.specs.declared.ids.TxnId.{TxnId}
 use Rattle.txn_table.specs.declared.known.Known.{Known}
 use Rattle.rc_base.specs.Ids.{is_txn}
+use Rattle.rc_base.proofs.SameIds.{is_txn_flip}
 use Rattle.txn_table.specs.Commits.{txn_lt, put, with_txn}
 use Rattle.txn_table.specs.Tables.{Rise, place}
-use Rattle.txn_table.proofs.Order.{lt_not_txn, lt_not_same, lt_not_back, lt_back, lt_trans, same_turned}
+use Rattle.txn_table.proofs.Order.{lt_not_txn, lt_not_same, lt_not_back, lt_back, lt_trans}
 
 -- ---- from a binary search
 
@@ -111,7 +112,7 @@ all_put P k (o ∷ ks) p h =
 
 rise_step : (k o : Known) (ks : List Known) → Rise (o ∷ ks) → is_txn o.txn k.txn ≡ false → Rise (put k ks) → (b : Bool) → txn_lt k.txn o.txn ≡ b → Rise (cond b (k ∷ o ∷ ks) (o ∷ put k ks))
 rise_step k o ks h n ih true e = ((e, all_above k.txn o.txn ks e h.0), h)
-rise_step k o ks h n ih false e = (all_put (λ other. txn_lt o.txn other.txn ≡ true) k ks (lt_back k.txn o.txn e (same_turned k.txn o.txn ∙ n)) h.0, ih)
+rise_step k o ks h n ih false e = (all_put (λ other. txn_lt o.txn other.txn ≡ true) k ks (lt_back k.txn o.txn e (is_txn_flip k.txn o.txn ∙ n)) h.0, ih)
 
 pub rise_put : (k : Known) (ks : List Known) → Rise ks → with_txn k.txn ks ≡ None → Rise (put k ks)
 rise_put k [] h n = (tt, tt)

@@ -13,9 +13,9 @@ use Rattle.txn_table.specs.declared.known.Ending.{Ending}
 use Rattle.txn_table.specs.declared.known.Ending.TheVariants.{ByEnd}
 use Rattle.txn_table.specs.declared.known.Known.{Known}
 use Rattle.rc_base.specs.Ids.{is_txn}
+use Rattle.rc_base.proofs.SameIds.{is_txn_flip}
 use Rattle.txn_table.specs.Commits.{last_position, with_txn, ops_of, put, seen, is_pending, goes_on, as_pending, pending_in}
 use Rattle.txn_table.specs.Tables.{Rise, place, IsLinkedAt, followed, with_records, position, ending_to, trimmed, cut, ends_above}
-use Rattle.txn_table.proofs.Order.{same_turned}
 use Rattle.txn_table.proofs.Places.{changed, known_here, put_is, rise_put}
 use Rattle.txn_table.proofs.Records.{begin_changes_none, operation_of_other, operation_of_own, end_of_other, end_of_own}
 
@@ -44,7 +44,7 @@ written f txn g ks prev at new h l e =
 pub operation_written : (lsn prev : Lsn) (txn : TxnId) (op : Op) (ks : List Known) (at : ℕ) (r : Known) (ops : List (Lsn × Op)) → Rise ks → IsLinkedAt ks txn prev at → r ≡ get_or ks at r → ops ≡ r.ops ++ (lsn, op) ∷ [] → set ks at (record { txn = r.txn; begin = r.begin; ops = ops; ending = r.ending }) ≡ map (followed ((lsn, Operation txn prev op) ∷ [])) ks
 operation_written lsn prev txn op ks at r ops h l e o =
     let same : r ≡ l.0 = linked_is ks txn prev at r l e in
-    let own : is_txn txn r.txn ≡ true = same_turned txn r.txn ∙ ap (λ (k : Known). is_txn k.txn txn) same ∙ l.3 in
+    let own : is_txn txn r.txn ≡ true = is_txn_flip txn r.txn ∙ ap (λ (k : Known). is_txn k.txn txn) same ∙ l.3 in
     let f : Known → Known = followed ((lsn, Operation txn prev op) ∷ []) in
     written f txn (operation_of_other lsn prev txn op) ks prev at (record { txn = r.txn; begin = r.begin; ops = ops; ending = r.ending }) h l
     (ap (λ (os : List (Lsn × Op)). let k : Known = record { txn = r.txn; begin = r.begin; ops = os; ending = r.ending } in k) o
@@ -54,7 +54,7 @@ operation_written lsn prev txn op ks at r ops h l e o =
 pub end_written : (lsn prev : Lsn) (txn : TxnId) (committed : Bool) (ks : List Known) (at : ℕ) (r : Known) → Rise ks → IsLinkedAt ks txn prev at → r ≡ get_or ks at r → set ks at (record { txn = r.txn; begin = r.begin; ops = r.ops; ending = Some (ByEnd lsn) }) ≡ map (followed ((lsn, End txn prev committed) ∷ [])) ks
 end_written lsn prev txn committed ks at r h l e =
     let same : r ≡ l.0 = linked_is ks txn prev at r l e in
-    let own : is_txn txn r.txn ≡ true = same_turned txn r.txn ∙ ap (λ (k : Known). is_txn k.txn txn) same ∙ l.3 in
+    let own : is_txn txn r.txn ≡ true = is_txn_flip txn r.txn ∙ ap (λ (k : Known). is_txn k.txn txn) same ∙ l.3 in
     let going : is_pending r ≡ true = ap (λ (k : Known). is_pending k) same ∙ l.4 in
     let f : Known → Known = followed ((lsn, End txn prev committed) ∷ []) in
     written f txn (end_of_other lsn prev txn committed) ks prev at (record { txn = r.txn; begin = r.begin; ops = r.ops; ending = Some (ByEnd lsn) }) h l
