@@ -7,7 +7,7 @@ use std::marker::Model;
 
 /// Operations in the order in which they were logged, each with the position of its record. Contracts see the list
 /// of them.
-#[derive(Debug, Drop)]
+#[derive(Drop)]
 pub struct LoggedOps {
     ops: Vec<(Lsn, Op)>,
 }
@@ -91,7 +91,7 @@ impl Clone for LoggedOps {
 }
 
 /// A transaction that is pending: it began, and neither its End nor the start of an epoch stands after its Begin.
-#[derive(Debug, Drop)]
+#[derive(Drop)]
 pub struct PendingTxn {
     pub txn: TxnId,
     /// The position of its Begin.

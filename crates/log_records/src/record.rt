@@ -2,7 +2,7 @@ use coll_model::Op;
 use rc_base::{Epoch, Lsn, TxnId};
 
 /// A logical record of the log: what a transaction did, and what the primary of an epoch noted.
-#[derive(Debug, Drop, PartialEq, Eq)]
+#[derive(Drop, PartialEq, Eq)]
 pub enum Record {
     /// The transaction begins.
     Begin {
@@ -31,7 +31,7 @@ pub enum Record {
 }
 
 /// A physical record: what stands in a log area.
-#[derive(Debug, Drop, PartialEq, Eq)]
+#[derive(Drop, PartialEq, Eq)]
 pub enum Physical {
     /// A logical record with its position and epoch.
     Logical {

@@ -7,14 +7,14 @@ use rc_base::{Lsn, NoMemory, TxnId};
 use std::alloc::{AllocError, Global};
 
 /// What ended a transaction, and at which position: its own End, or the start of an epoch.
-#[derive(Clone, Copy, Debug, PartialEq, Eq)]
+#[derive(Clone, Copy, PartialEq, Eq)]
 pub enum Ending {
     ByEnd(Lsn),
     ByEpoch(Lsn),
 }
 
 /// What a table knows of a transaction.
-#[derive(Debug, Drop)]
+#[derive(Drop)]
 pub struct Known {
     pub txn: TxnId,
     /// The position of its Begin.
