@@ -1,35 +1,18 @@
 -- On members, which rise.
 use Rattle.std.proofs.Common.{◌≡◌, ℕ, List, [], ◌∷◌, ◌+◌, ◌≤◌, length, Bool, true, false, not, ◌&&◌, None, is_some, refl, sym, arith, eqb, leb}
-use Rattle.std.specs.List.{list_any, AllByRecursion}
-use Rattle.std.specs.List.Sorted.{IsStrictlyIncreasing, IsStrictlySortedBy}
+use Rattle.std.specs.List.{list_any}
+use Rattle.std.specs.List.Sorted.{IsStrictlyIncreasing}
 use Rattle.std.specs.Ordering.{nat_cmp}
-use Rattle.std.specs.declared.cmp.Ordering.TheVariants.{Less}
 use Rattle.std.specs.BTreeSet.{BTreeSet}
 use Rattle.std.specs.BTreeMap.{is_at}
 use Rattle.std.specs.Cmp.{nat_cmp_total}
-use Rattle.std.proofs.lemmas.Bool.Decides.{nat_tests}
-use Rattle.std.proofs.lemmas.Map.Keys.{sorted_from_strictly_increasing, sorted_head, sorted_tail}
+use Rattle.std.proofs.lemmas.Map.Keys.{sorted_from_strictly_increasing}
 use Rattle.std.proofs.lemmas.Map.Lookups.{btree_set_from_contains, exact_unsigned}
 use Rattle.std.proofs.lemmas.List.Sorted.{list_any-IsPermutation, length_permutation}
 use Rattle.std.proofs.lemmas.Bool.{and_parts, leb-true}
 use Rattle.rc_base.specs.declared.ids.Epoch.{Epoch}
 use Rattle.config_rule.specs.Rule.{Known, first_broken, broken_appointment, is_above, are_members, has_quorum, has_answered_last, tells_most}
 use Rattle.rc_base.specs.Members.{first_twice, AreMembers}
-
-not_again : (id : ℕ) (ids : List ℕ) → AllByRecursion (λ y. nat_cmp id y ≡ Less) ids → list_any (λ other. eqb other id) ids ≡ false
-not_again id [] h = refl
-not_again id (x ∷ xs) h = let off : eqb x id ≡ false = above id x h.0 in rw off (not_again id xs h.1)
-  where
-    above : (a b : ℕ) → nat_cmp a b ≡ Less → eqb b a ≡ false
-    above a b e = grind (arith, nat_tests)
-
-none_twice_sorted : (ids : List ℕ) → IsStrictlySortedBy nat_cmp ids → first_twice ids ≡ None
-none_twice_sorted [] h = refl
-none_twice_sorted (x ∷ xs) h = rw (not_again x xs (sorted_head nat_cmp x xs h)) (none_twice_sorted xs (sorted_tail nat_cmp x xs h))
-
--- no replica stands twice in a list that rises
-pub none_twice : (ids : List ℕ) → IsStrictlyIncreasing ids → first_twice ids ≡ None
-none_twice ids h = none_twice_sorted ids (sorted_from_strictly_increasing ids h)
 
 -- the members of a list that rises are that list
 pub same_members : (ids members : List ℕ) → IsStrictlyIncreasing ids → AreMembers ids members → members ≡ ids
@@ -39,7 +22,7 @@ same_members ids members h m =
 
 -- ---- what a lawful appointment's members are
 
-first_holds : (part : ℕ) (b : Bool) (bs : List Bool) → first_broken part (b ∷ bs) ≡ None → (b ≡ true) × (first_broken (part + 1) bs ≡ None)
+pub first_holds : (part : ℕ) (b : Bool) (bs : List Bool) → first_broken part (b ∷ bs) ≡ None → (b ≡ true) × (first_broken (part + 1) bs ≡ None)
 first_holds part true bs e = (refl, e)
 first_holds part false bs e = absurd (cc)
 

@@ -7,7 +7,7 @@ use crate::answers::is_before;
 use rc_base::{Epoch, Members, ReplicaId};
 
 /// A lawful appointment.
-#[derive(Debug, Drop)]
+#[derive(Drop)]
 pub struct Appointment {
     /// The epoch that begins.
     pub epoch: Epoch,
@@ -19,7 +19,7 @@ pub struct Appointment {
 }
 
 // What is kept of an appointment. The primary of the boot isn't known.
-#[derive(Debug, Drop)]
+#[derive(Drop)]
 pub struct Appointed {
     pub epoch: Epoch,
     pub primary: Option<ReplicaId>,

@@ -16,7 +16,7 @@ pub enum RuleError {
     /// The rule is broken.
     #[error("part {} of the rule fails", .0.part)]
     Broken(Broken),
-    /// Want of memory.
+    /// Out of memory.
     #[error("out of memory")]
     NoMemory,
 }

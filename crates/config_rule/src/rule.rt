@@ -4,7 +4,7 @@ ghost use Rattle.rc_base.specs.Members.{AreMembers};
 use crate::answers::{Answer, Answers};
 use crate::appointments::{Appointed, Appointment, is_above, is_latest, place_of};
 use crate::error::{Broken, RuleError};
-use crate::members::{are_members, copy_of, distinct_members};
+use crate::members::{are_members, distinct_members};
 use rc_base::{Epoch, Lsn, Members, NoMemory, ReplicaId, read_quorum};
 use std::alloc::Global;
 use std::marker::Model;
@@ -52,8 +52,8 @@ impl Rule {
         appointed.push(Appointed {
             epoch: Epoch { loss: 0, number: 1 },
             primary: None,
-            pc: copy_of(alloc, first)?,
-            cc: copy_of(alloc, first)?,
+            pc: first.clone()?,
+            cc: first.clone()?,
             active: false,
             activated: true,
         })?;
@@ -101,7 +101,7 @@ impl Rule {
     /// greater than the primary's, by the epoch of the last record, then by its place (5), and the primary is up (6).
     ///
     /// # Errors
-    /// `Broken` exactly where a part fails, with the least that does; `NoMemory` for want of memory. After either the
+    /// `Broken` exactly where a part fails, with the least that does; `NoMemory` where it is out of memory. After either the
     /// rule is as before.
     pub fn appoint(
         &mut self,
@@ -122,7 +122,7 @@ impl Rule {
     {
         self.judge(epoch, primary, members, up)?;
         let cc = distinct_members(self.alloc, members)?;
-        let pc = copy_of(self.alloc, self.configuration())?;
+        let pc = self.previous()?;
         self.keep(epoch, primary, &cc)?;
         Ok(Appointment {
             epoch,
@@ -177,6 +177,13 @@ impl Rule {
         &self.appointed[self.current].cc
     }
 
+    // A copy of it, as an appointment's previous one.
+    fn previous(&self) -> Result<Members, NoMemory>
+        ensures { IfOk result (λ pc. pc ≡ self.now.current) }
+    {
+        Ok(self.configuration().clone()?)
+    }
+
     // The least part of the rule that an appointment breaks.
     fn judge(
         &self,
@@ -224,8 +231,8 @@ impl Rule {
         let appointed = Appointed {
             epoch,
             primary: Some(primary),
-            pc: copy_of(self.alloc, self.configuration())?,
-            cc: copy_of(self.alloc, cc)?,
+            pc: self.previous()?,
+            cc: cc.clone()?,
             active: false,
             activated: false,
         };

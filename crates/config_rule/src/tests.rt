@@ -1,7 +1,32 @@
 use super::*;
 use rc_base::{Epoch, Lsn, Members, ReplicaId};
 use std::alloc::Global;
+use std::process::Abort;
 use std::test::*;
+
+// Numbers of replicas.
+type Numbers = &'static [u8];
+
+const TRIO: Numbers = &[0, 1, 2];
+
+// An epoch is 0 and the number, and a part is 0 where none is broken.
+#[derive(Clone, Copy)]
+enum Step {
+    // Whether a survey of the epoch may be asked.
+    Survey(u32, bool),
+    // A replica answers a survey of the epoch, with the epoch and the place of its last record.
+    Answer(u32, u8, u32, u64),
+    // The primary is up, and with these members its appointment to the epoch breaks this part.
+    Appoint(u32, u8, Numbers, u8),
+    // The same, of a primary that is down.
+    AppointDown(u32, u8, Numbers, u8),
+    // The appointment is lawful, and this is its previous configuration.
+    Replace(u32, u8, Numbers, Numbers),
+    // The primary of the epoch is active.
+    Active(u32),
+    // The activation of the epoch breaks this part.
+    Activate(u32, u8),
+}
 
 fn epoch(number: u32) -> Epoch {
     Epoch { loss: 0, number }
@@ -11,12 +36,26 @@ fn replica(number: u8) -> Result<ReplicaId, Fail> {
     Ok(ReplicaId::new(number).ok_or("a replica is below 9")?)
 }
 
-fn trio() -> Result<[ReplicaId; 3], Fail> {
-    Ok([replica(0)?, replica(1)?, replica(2)?])
+fn replicas(alloc: Global, numbers: &[u8]) -> Result<Vec<ReplicaId>, Fail> {
+    let mut ids = Vec::new(alloc);
+    for number in numbers {
+        ids.push(replica(*number)?)?;
+    }
+    Ok(ids)
 }
 
-fn rule_of(alloc: Global, first: &[ReplicaId]) -> Result<Rule, Fail> {
-    let members = Members::from_slice(alloc, first)?;
+fn has_numbers(members: &Members, numbers: &[u8]) -> bool {
+    let ids = members.as_slice();
+    ids.len() == numbers.len()
+        && ids
+            .iter()
+            .zip(numbers)
+            .all(|(id, number)| id.number() == *number)
+}
+
+fn rule_of(alloc: Global, first: &[u8]) -> Result<Rule, Fail> {
+    let ids = replicas(alloc, first)?;
+    let members = Members::from_slice(alloc, &ids)?;
     if members.is_empty() {
         return Err("a configuration has members")?;
     }
@@ -24,7 +63,7 @@ fn rule_of(alloc: Global, first: &[ReplicaId]) -> Result<Rule, Fail> {
 }
 
 // The part that a call breaks, or 0.
-fn part_of(answer: &Result<Appointment, RuleError>) -> u8 {
+fn part_of(answer: Result<Appointment, RuleError>) -> u8 {
     match answer {
         Ok(_) => 0,
         Err(RuleError::Broken(broken)) => broken.part,
@@ -32,13 +71,37 @@ fn part_of(answer: &Result<Appointment, RuleError>) -> u8 {
     }
 }
 
-fn appoint(rule: &mut Rule, number: u32, primary: u8, members: &[ReplicaId]) -> Result<u8, Fail> {
-    Ok(part_of(&rule.appoint(epoch(number), replica(primary)?, members, true)))
+fn appoint(
+    alloc: Global,
+    rule: &mut Rule,
+    number: u32,
+    primary: u8,
+    members: &[u8],
+    up: bool,
+) -> Result<u8, Fail> {
+    let primary = replica(primary)?;
+    let members = replicas(alloc, members)?;
+    Ok(part_of(rule.appoint(epoch(number), primary, &members, up)))
 }
 
-// A replica answers a survey with a last record of epoch 0.1.
-fn answer(rule: &mut Rule, number: u32, from: u8, last: u64) -> Result<(), Fail> {
-    Ok(rule.note_answer(epoch(number), replica(from)?, epoch(1), Lsn(last))?)
+// Whether the appointment is lawful and tells both configurations.
+fn replace(
+    alloc: Global,
+    rule: &mut Rule,
+    number: u32,
+    primary: u8,
+    members: &[u8],
+    previous: &[u8],
+) -> Result<bool, Fail> {
+    let primary = replica(primary)?;
+    let ids = replicas(alloc, members)?;
+    let told = rule.appoint(epoch(number), primary, &ids, true)?;
+    Ok(
+        told.epoch == epoch(number)
+            && told.primary == primary
+            && has_numbers(&told.pc, previous)
+            && has_numbers(&told.cc, members),
+    )
 }
 
 fn activate(rule: &mut Rule, number: u32) -> u8 {
@@ -48,167 +111,196 @@ fn activate(rule: &mut Rule, number: u32) -> u8 {
     }
 }
 
-#[test]
-fn refused_appointments(rt: HostRuntime) -> Result<(), Fail> {
-    let members = trio()?;
-    let two = [replica(1)?, replica(2)?];
-    let mut rule = rule_of(rt.alloc(), &members)?;
-    assert!(rt; rule.survey_ok(epoch(2)) && !rule.survey_ok(epoch(1)));
-    answer(&mut rule, 2, 1, 7)?;
-    assert_eq!(rt; appoint(&mut rule, 2, 1, &members)?, 3);
-    answer(&mut rule, 2, 0, 10)?;
-    assert_eq!(rt; appoint(&mut rule, 2, 1, &members)?, 5);
-    assert_eq!(rt; appoint(&mut rule, 1, 0, &members)?, 1);
-    assert_eq!(rt; appoint(&mut rule, 2, 0, &two)?, 2);
-    assert_eq!(rt; appoint(&mut rule, 2, 2, &members)?, 4);
-    assert_eq!(rt; activate(&mut rule, 2), 7);
-    Ok(())
-}
-
-#[test]
-fn a_primary_that_is_down(rt: HostRuntime) -> Result<(), Fail> {
-    let members = trio()?;
-    let mut rule = rule_of(rt.alloc(), &members)?;
-    answer(&mut rule, 2, 0, 7)?;
-    answer(&mut rule, 2, 1, 7)?;
-    let down = rule.appoint(epoch(2), members[0], &members, false);
-    assert_eq!(rt; part_of(&down), 6);
-    Ok(())
-}
-
-#[test]
-fn the_least_part_is_named(rt: HostRuntime) -> Result<(), Fail> {
-    let (members, twice) = (trio()?, [replica(0)?, replica(1)?, replica(0)?]);
-    let mut rule = rule_of(rt.alloc(), &members)?;
-    assert_eq!(rt; appoint(&mut rule, 1, 2, &twice)?, 1);
-    assert_eq!(rt; appoint(&mut rule, 2, 0, &twice)?, 2);
-    assert_eq!(rt; appoint(&mut rule, 2, 0, &[])?, 2);
-    assert_eq!(rt; appoint(&mut rule, 2, 0, &members)?, 3);
-    Ok(())
-}
-
-#[test]
-fn a_later_survey_was_answered(rt: HostRuntime) -> Result<(), Fail> {
-    let members = trio()?;
-    let mut rule = rule_of(rt.alloc(), &members)?;
-    answer(&mut rule, 2, 0, 7)?;
-    answer(&mut rule, 2, 1, 7)?;
-    answer(&mut rule, 3, 0, 7)?;
-    assert_eq!(rt; appoint(&mut rule, 2, 0, &members)?, 4);
-    assert_eq!(rt; appoint(&mut rule, 2, 1, &members)?, 0);
-    Ok(())
-}
-
-#[test]
-fn a_later_answer_replaces(rt: HostRuntime) -> Result<(), Fail> {
-    let members = trio()?;
-    let mut rule = rule_of(rt.alloc(), &members)?;
-    answer(&mut rule, 2, 0, 10)?;
-    answer(&mut rule, 2, 1, 7)?;
-    assert_eq!(rt; appoint(&mut rule, 2, 1, &members)?, 5);
-    answer(&mut rule, 2, 1, 10)?;
-    assert_eq!(rt; appoint(&mut rule, 2, 1, &members)?, 0);
-    Ok(())
-}
-
-#[test]
-fn epochs_go_before_places(rt: HostRuntime) -> Result<(), Fail> {
-    let members = trio()?;
-    let mut rule = rule_of(rt.alloc(), &members)?;
-    answer(&mut rule, 3, 0, 10)?;
-    rule.note_answer(epoch(3), members[1], epoch(2), Lsn(4))?;
-    assert_eq!(rt; appoint(&mut rule, 3, 0, &members)?, 5);
-    assert_eq!(rt; appoint(&mut rule, 3, 1, &members)?, 0);
-    Ok(())
-}
-
-#[test]
-fn activations(rt: HostRuntime) -> Result<(), Fail> {
-    let members = trio()?;
-    let mut rule = rule_of(rt.alloc(), &members)?;
-    answer(&mut rule, 2, 0, 7)?;
-    answer(&mut rule, 2, 1, 7)?;
-    assert_eq!(rt; appoint(&mut rule, 2, 0, &members)?, 0);
-    assert_eq!(rt; activate(&mut rule, 1), 7);
-    assert_eq!(rt; activate(&mut rule, 2), 8);
-    rule.note_active(epoch(2));
-    assert_eq!(rt; activate(&mut rule, 2), 0);
-    assert_eq!(rt; activate(&mut rule, 2), 0);
-    Ok(())
-}
-
-#[test]
-fn the_boot_is_activated_again(rt: HostRuntime) -> Result<(), Fail> {
-    let mut rule = rule_of(rt.alloc(), &trio()?)?;
-    assert_eq!(rt; activate(&mut rule, 1), 8);
-    rule.note_active(epoch(1));
-    assert_eq!(rt; activate(&mut rule, 1), 0);
-    Ok(())
-}
-
-// The members before those of epoch 0.3, where epoch 0.2 has the members 0 and 1 and was activated or not.
-fn previous(alloc: Global, activated: bool) -> Result<usize, Fail> {
-    let members = trio()?;
-    let mut rule = rule_of(alloc, &members)?;
-    answer(&mut rule, 2, 0, 7)?;
-    answer(&mut rule, 2, 1, 7)?;
-    appoint(&mut rule, 2, 0, &members[..2])?;
-    if activated {
-        rule.note_active(epoch(2));
-        activate(&mut rule, 2);
-    }
-    answer(&mut rule, 3, 0, 7)?;
-    answer(&mut rule, 3, 1, 7)?;
-    let appointment = rule.appoint(epoch(3), members[0], &members, true)?;
-    Ok(appointment.pc.len())
-}
-
-#[test]
-fn activation_moves_the_configuration(rt: HostRuntime) -> Result<(), Fail> {
-    assert_eq!(rt; previous(rt.alloc(), false)?, 3);
-    assert_eq!(rt; previous(rt.alloc(), true)?, 2);
-    Ok(())
-}
-
-#[test]
-fn an_appointment_tells_both(rt: HostRuntime) -> Result<(), Fail> {
-    let (two, primary) = ([replica(0)?, replica(1)?], replica(1)?);
-    let three = trio()?;
-    let mut rule = rule_of(rt.alloc(), &two)?;
-    answer(&mut rule, 2, 1, 7)?;
-    let appointment = rule.appoint(epoch(2), primary, &three, true)?;
-    assert!(rt; appointment.epoch == epoch(2) && appointment.primary == primary);
-    assert_eq!(rt; appointment.pc.as_slice(), two.as_slice());
-    assert_eq!(rt; appointment.cc.as_slice(), three.as_slice());
-    Ok(())
-}
-
-// After how many answers the first of the members can be appointed.
-fn answers_needed(alloc: Global, members: &[ReplicaId]) -> Result<usize, Fail> {
-    let mut rule = rule_of(alloc, members)?;
-    for (i, id) in members.iter().enumerate() {
-        answer(&mut rule, 2, id.number(), 7)?;
-        if appoint(&mut rule, 2, 0, members)? == 0 {
-            return Ok(i + 1);
+fn play(rt: &impl Abort, alloc: Global, rule: &mut Rule, step: Step) -> Result<(), Fail> {
+    match step {
+        Step::Survey(number, ok) => assert_eq!(rt; rule.survey_ok(epoch(number)), ok),
+        Step::Answer(number, from, last_epoch, last) => {
+            rule.note_answer(epoch(number), replica(from)?, epoch(last_epoch), Lsn(last))?;
         }
+        Step::Appoint(number, primary, members, part) => {
+            assert_eq!(rt; appoint(alloc, rule, number, primary, members, true)?, part);
+        }
+        Step::AppointDown(number, primary, members, part) => {
+            assert_eq!(rt;
+                appoint(alloc, rule, number, primary, members, false)?,
+                part
+            );
+        }
+        Step::Replace(number, primary, members, previous) => {
+            assert!(rt; replace(alloc, rule, number, primary, members, previous)?);
+        }
+        Step::Active(number) => rule.note_active(epoch(number)),
+        Step::Activate(number, part) => assert_eq!(rt; activate(rule, number), part),
     }
-    Ok(0)
+    Ok(())
 }
+
+// What happens after a boot with these members.
+fn run(rt: &impl Abort, alloc: Global, first: &[u8], steps: &[Step]) -> Result<(), Fail> {
+    let mut rule = rule_of(alloc, first)?;
+    for step in steps {
+        play(rt, alloc, &mut rule, *step)?;
+    }
+    Ok(())
+}
+
+const REFUSED_APPOINTMENTS: &[Step] = &[
+    Step::Survey(2, true),
+    Step::Survey(1, false),
+    Step::Answer(2, 1, 1, 7),
+    Step::Appoint(2, 1, TRIO, 3),
+    Step::Answer(2, 0, 1, 10),
+    Step::Appoint(2, 1, TRIO, 5),
+    Step::Appoint(1, 0, TRIO, 1),
+    Step::Appoint(2, 0, &[1, 2], 2),
+    Step::Appoint(2, 2, TRIO, 4),
+    Step::Activate(2, 7),
+];
+
+const A_PRIMARY_THAT_IS_DOWN: &[Step] = &[
+    Step::Answer(2, 0, 1, 7),
+    Step::Answer(2, 1, 1, 7),
+    Step::AppointDown(2, 0, TRIO, 6),
+];
+
+const THE_LEAST_PART_IS_NAMED: &[Step] = &[
+    Step::Appoint(1, 2, &[0, 1, 0], 1),
+    Step::Appoint(2, 0, &[0, 1, 0], 2),
+    Step::Appoint(2, 0, &[], 2),
+    Step::Appoint(2, 0, TRIO, 3),
+];
+
+const A_LATER_SURVEY_WAS_ANSWERED: &[Step] = &[
+    Step::Answer(2, 0, 1, 7),
+    Step::Answer(2, 1, 1, 7),
+    Step::Answer(3, 0, 1, 7),
+    Step::Appoint(2, 0, TRIO, 4),
+    Step::Appoint(2, 1, TRIO, 0),
+];
+
+const A_LATER_ANSWER_REPLACES: &[Step] = &[
+    Step::Answer(2, 0, 1, 10),
+    Step::Answer(2, 1, 1, 7),
+    Step::Appoint(2, 1, TRIO, 5),
+    Step::Answer(2, 1, 1, 10),
+    Step::Appoint(2, 1, TRIO, 0),
+];
+
+const EPOCHS_GO_BEFORE_PLACES: &[Step] = &[
+    Step::Answer(3, 0, 1, 10),
+    Step::Answer(3, 1, 2, 4),
+    Step::Appoint(3, 0, TRIO, 5),
+    Step::Appoint(3, 1, TRIO, 0),
+];
+
+const ACTIVATIONS: &[Step] = &[
+    Step::Answer(2, 0, 1, 7),
+    Step::Answer(2, 1, 1, 7),
+    Step::Appoint(2, 0, TRIO, 0),
+    Step::Activate(1, 7),
+    Step::Activate(2, 8),
+    Step::Active(2),
+    Step::Activate(2, 0),
+    Step::Activate(2, 0),
+];
+
+const THE_BOOT_IS_ACTIVATED_AGAIN: &[Step] = &[
+    Step::Activate(1, 8),
+    Step::Active(1),
+    Step::Activate(1, 0),
+];
+
+const NOT_ACTIVATED: &[Step] = &[
+    Step::Answer(2, 0, 1, 7),
+    Step::Answer(2, 1, 1, 7),
+    Step::Replace(2, 0, &[0, 1], TRIO),
+    Step::Answer(3, 0, 1, 7),
+    Step::Answer(3, 1, 1, 7),
+    Step::Replace(3, 0, TRIO, TRIO),
+];
+
+const ACTIVATED: &[Step] = &[
+    Step::Answer(2, 0, 1, 7),
+    Step::Answer(2, 1, 1, 7),
+    Step::Replace(2, 0, &[0, 1], TRIO),
+    Step::Active(2),
+    Step::Activate(2, 0),
+    Step::Answer(3, 0, 1, 7),
+    Step::Answer(3, 1, 1, 7),
+    Step::Replace(3, 0, TRIO, &[0, 1]),
+];
+
+#[test]
+fn what_a_rule_allows(rt: HostRuntime) -> Result<(), Fail> {
+    for steps in [
+        REFUSED_APPOINTMENTS,
+        A_PRIMARY_THAT_IS_DOWN,
+        THE_LEAST_PART_IS_NAMED,
+        A_LATER_SURVEY_WAS_ANSWERED,
+        A_LATER_ANSWER_REPLACES,
+        EPOCHS_GO_BEFORE_PLACES,
+        ACTIVATIONS,
+        THE_BOOT_IS_ACTIVATED_AGAIN,
+        NOT_ACTIVATED,
+        ACTIVATED,
+    ] {
+        run(&rt, rt.alloc(), TRIO, steps)?;
+    }
+    Ok(())
+}
+
+// The members of a boot, and what happens: as many answers as the first needs for its appointment.
+const READ_QUORUMS: [(Numbers, &[Step]); 5] = [
+    (
+        &[0],
+        &[
+            Step::Appoint(2, 0, &[0], 3),
+            Step::Answer(2, 0, 1, 7),
+            Step::Appoint(2, 0, &[0], 0),
+        ],
+    ),
+    (
+        &[0, 1],
+        &[
+            Step::Appoint(2, 0, &[0], 3),
+            Step::Answer(2, 0, 1, 7),
+            Step::Appoint(2, 0, &[0], 0),
+        ],
+    ),
+    (
+        &[0, 1, 2],
+        &[
+            Step::Answer(2, 0, 1, 7),
+            Step::Appoint(2, 0, &[0], 3),
+            Step::Answer(2, 1, 1, 7),
+            Step::Appoint(2, 0, &[0], 0),
+        ],
+    ),
+    (
+        &[0, 1, 2, 3],
+        &[
+            Step::Answer(2, 0, 1, 7),
+            Step::Appoint(2, 0, &[0], 3),
+            Step::Answer(2, 1, 1, 7),
+            Step::Appoint(2, 0, &[0], 0),
+        ],
+    ),
+    (
+        &[0, 1, 2, 3, 4],
+        &[
+            Step::Answer(2, 0, 1, 7),
+            Step::Answer(2, 1, 1, 7),
+            Step::Appoint(2, 0, &[0], 3),
+            Step::Answer(2, 2, 1, 7),
+            Step::Appoint(2, 0, &[0], 0),
+        ],
+    ),
+];
 
 #[test]
 fn read_quorums(rt: HostRuntime) -> Result<(), Fail> {
-    let five = [
-        replica(0)?,
-        replica(1)?,
-        replica(2)?,
-        replica(3)?,
-        replica(4)?,
-    ];
-    let alloc = rt.alloc();
-    assert_eq!(rt; answers_needed(alloc, &five[..1])?, 1);
-    assert_eq!(rt; answers_needed(alloc, &five[..2])?, 1);
-    assert_eq!(rt; answers_needed(alloc, &five[..3])?, 2);
-    assert_eq!(rt; answers_needed(alloc, &five[..4])?, 2);
-    assert_eq!(rt; answers_needed(alloc, &five)?, 3);
+    for (members, steps) in READ_QUORUMS {
+        run(&rt, rt.alloc(), members, steps)?;
+    }
     Ok(())
 }

@@ -3,6 +3,7 @@ use Rattle.std.proofs.Common.{◌≡◌, ◌∙◌, ℕ, ◌+◌, ◌<◌, lengt
 use Rattle.std.specs.List.{list_any, IsDistinct, AllByRecursion}
 use Rattle.std.specs.Map.{keys_of}
 use Rattle.std.specs.Option.{option_map}
+use Rattle.std.proofs.lemmas.Bool.{false_from_ne_true}
 use Rattle.std.proofs.lemmas.List.{append-nil, take_more}
 use Rattle.std.proofs.lemmas.List.Folds.{list_any-append}
 use Rattle.rc_base.specs.declared.ids.TxnId.{TxnId}
@@ -119,10 +120,6 @@ granted_alike rows new txn name mode d e changes = λ other. holders_row other n
         rw at (sym (granted_elsewhere other name (all_grants rows) txn mode (is_name_equivalence.symm other name ∙ at) ∙ holders_row other rows d))
 
 -- a transaction is in none of the rows that are not noted for it
-not_true : (b : Bool) → (b ≡ true → ⊥) → b ≡ false
-not_true true h = absurd (h refl)
-not_true false h = refl
-
 false_true : {A : Type 0} → false ≡ true → A
 false_true e = absurd (cc)
 
@@ -133,7 +130,7 @@ released_alike rows new held txn t e left = λ name. holders_row name new e ∙ 
     by : (name : LockName) (b : Bool) → list_any (is_name name) (noted held txn) ≡ b → cond (list_any (is_name name) (noted held txn)) (others txn (row rows name)) (row rows name) ≡ others txn (row rows name)
     by name true at = rw at refl
     by name false at =
-        let absent : list_any (is_holder txn) (row rows name) ≡ false = not_true (list_any (is_holder txn) (row rows name)) (λ there. false_true (sym at ∙ t.noted txn name there)) in
+        let absent : list_any (is_holder txn) (row rows name) ≡ false = false_from_ne_true (list_any (is_holder txn) (row rows name)) (λ there. false_true (sym at ∙ t.noted txn name there)) in
         rw at (sym (others_all txn (row rows name) absent))
 
 pub released_table : (rows new : Rows) (held left_held : Held) (txn : TxnId) → IsTable rows held → IsDistinct is_name (keys_of new) → RowsLeft rows new txn (noted held txn)

@@ -4,7 +4,7 @@ use Rattle.std.specs.List.{position, position_or_len, list_any}
 use Rattle.std.specs.Option.{option_map}
 use Rattle.std.proofs.lemmas.List.Quantifiers.{position-Some}
 use Rattle.std.proofs.lemmas.List.Sums.{fails_before_first}
-use Rattle.std.proofs.lemmas.Bool.{ltb-false}
+use Rattle.std.proofs.lemmas.Bool.{ltb-false, or_cases, or_parts}
 use Rattle.rc_base.specs.declared.ids.TxnId.{TxnId}
 use Rattle.key_locks.specs.declared.lock_mode.LockMode.{LockMode}
 use Rattle.key_locks.specs.declared.holders.Holder.{Holder}
@@ -49,17 +49,9 @@ granted_behind txn mode hs none =
 
 -- ---- who is in a row
 
-or_cases : (a b : Bool) → (a || b) ≡ true → (a ≡ true) ⊎ (b ≡ true)
-or_cases true b h = inl refl
-or_cases false b h = inr h
-
 or_right : (a b : Bool) → b ≡ true → (a || b) ≡ true
 or_right true b h = refl
 or_right false b h = h
-
-neither : (a b : Bool) → (a || b) ≡ false → (a ≡ false) × (b ≡ false)
-neither true b h = absurd (cc)
-neither false b h = (refl, h)
 
 -- who holds after a grant held before, or is the one that asked
 pub in_granted : (t txn : TxnId) (mode : LockMode) (hs : List Holder) → list_any (is_holder t) (granted_in hs txn mode) ≡ true
@@ -105,7 +97,7 @@ left_out txn (h ∷ hs) = by (left_out txn hs) (is_holder txn h) refl
 pub others_all : (txn : TxnId) (hs : List Holder) → list_any (is_holder txn) hs ≡ false → others txn hs ≡ hs
 others_all txn [] e = refl
 others_all txn (h ∷ hs) e =
-    let n = neither (is_holder txn h) (list_any (is_holder txn) hs) e in
+    let n = or_parts (is_holder txn h) (list_any (is_holder txn) hs) e in
     rw n.0 (ap (λ ys. h ∷ ys) (others_all txn hs n.1))
 
 -- whom a search finds is in the row

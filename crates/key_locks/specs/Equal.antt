@@ -6,11 +6,10 @@ use Rattle.std.proofs.lemmas.Slice.Eq.{slice_eq-Decides}
 use Rattle.std.specs.Cmp.{IsEquivalence, decided}
 use Rattle.std.specs.Cmp.Lexicographic.{pointwise}
 use Rattle.rc_base.specs.declared.ids.TxnId.{TxnId}
+use Rattle.rc_base.specs.Ids.{is_txn}
+use Rattle.rc_base.proofs.SameIds.{is_txn-true}
 use Rattle.key_locks.specs.declared.lock_name.LockName.{LockName}
 use Rattle.key_locks.specs.declared.lock_name.LockName.TheVariants.{Name, Key, Head, Tail}
-use Rattle.rc_base.specs.Ids.{is_txn}
-use Rattle.rc_base.proofs.SameIds.{is_txn-true, is_txn_same}
-use Rattle.key_locks.specs.Ids.{hashed_txn}
 use Rattle.key_locks.specs.Names.{is_name, hashed}
 
 bytes_decide : (a b : List ℕ) → Decides (pointwise eqb a b) (a ≡ b)
@@ -57,11 +56,6 @@ names_decide a b = (is_name-true a b, λ e. ap (is_name a) (sym e) ∙ is_name_s
 pub is_name_equivalence : IsEquivalence is_name
 is_name_equivalence = decided is_name names_decide
 
-pub txns_decide : (a b : TxnId) → Decides (is_txn a b) (a ≡ b)
-txns_decide a b = (is_txn-true a b, λ e. ap (is_txn a) (sym e) ∙ is_txn_same a)
-
-pub is_txn_equivalence : IsEquivalence is_txn
-is_txn_equivalence = decided is_txn txns_decide
-
-pub same_txns_hash_alike : (a b : TxnId) → IsTrue (is_txn a b) → hashed_txn a ≡ hashed_txn b
-same_txns_hash_alike a b h = ap hashed_txn (is_txn-true a b h)
+-- what is made of one transaction is the same for those that are one
+pub same_txns_alike : {X : Type 0} (f : TxnId → X) (a b : TxnId) → IsTrue (is_txn a b) → f a ≡ f b
+same_txns_alike f a b h = ap f (is_txn-true a b h)

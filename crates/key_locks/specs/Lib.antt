@@ -1,6 +1,5 @@
 pub mod Equal
 pub mod Grants
-pub mod Ids
 pub mod Laws
 pub mod Names
 pub mod Table

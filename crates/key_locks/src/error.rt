@@ -10,7 +10,7 @@ pub enum TakeError {
     /// The first other holder whose grant doesn't allow the request.
     #[error("the name is held")]
     Held { by: TxnId },
-    /// Want of memory.
+    /// Out of memory.
     #[error("out of memory")]
     NoMemory,
 }

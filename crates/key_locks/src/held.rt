@@ -2,13 +2,13 @@ ghost use Rattle.std.specs.Prelude.{◌≡◌, [], ◌∷◌, ◌++◌, OnOk, On
 
 use crate::lock_name::LockName;
 use indexmap::IndexMap;
-use rc_base::{NoMemory, TxnId};
+use rc_base::{NoMemory, Seq, TxnId};
 use std::alloc::Global;
 use std::hash::{Hash, Hasher};
 use std::marker::Model;
 
 // A transaction as a key of a table.
-#[derive(Clone, Copy, Debug, Drop)]
+#[derive(Clone, Copy, Drop)]
 struct Asker {
     txn: TxnId,
 }
@@ -26,7 +26,7 @@ impl Model for Asker {
 impl PartialEq for Asker {
     ghost use Rattle.rc_base.specs.Ids.{is_txn};
     ghost use Rattle.std.specs.Cmp.{partial_equiv_from_equiv};
-    ghost use Rattle.key_locks.specs.Equal.{is_txn_equivalence};
+    ghost use Rattle.rc_base.proofs.SameIds.{is_txn_equivalence};
 
     ghost eq = { is_txn };
 
@@ -38,66 +38,25 @@ impl PartialEq for Asker {
 }
 
 impl Eq for Asker {
-    ghost use Rattle.key_locks.specs.Equal.{is_txn_equivalence};
+    ghost use Rattle.rc_base.proofs.SameIds.{is_txn_equivalence};
 
     ghost laws = { is_txn_equivalence };
 }
 
 impl Hash for Asker {
-    ghost use Rattle.std.specs.Prelude.{◌++◌};
-    ghost use Rattle.std.specs.Hash as fed;
-    ghost use Rattle.key_locks.specs.Ids.{hashed_txn};
-    ghost use Rattle.key_locks.specs.Equal.{same_txns_hash_alike};
+    ghost use Rattle.key_locks.specs.Equal.{same_txns_alike};
 
-    ghost hash_input = { hashed_txn };
+    ghost hash_input = { ⟦<TxnId as Hash>⟧.hash_input };
 
-    ghost respects_eq = { same_txns_hash_alike };
+    ghost respects_eq = { same_txns_alike ⟦<TxnId as Hash>⟧.hash_input };
 
     fn hash<H: Hasher>(&self, state: &mut H) {
-        self.txn.epoch.loss.hash(state);
-        self.txn.epoch.number.hash(state);
-        self.txn.n.hash(state);
+        self.txn.hash(state);
     }
 }
 
-// Names in order. Contracts see the list of them.
-#[derive(Drop)]
-pub struct NameList {
-    names: Vec<LockName>,
-}
-
-impl Model for NameList {
-    ghost use Rattle.std.specs.Prelude.{List};
-    ghost use Rattle.key_locks.specs.declared.lock_name.LockName.{LockName};
-
-    ghost Value = { List LockName };
-
-    ghost view = { λ l. l.names.items };
-}
-
-impl NameList {
-    fn new(alloc: Global) -> NameList
-        ensures { result ≡ [] }
-    {
-        NameList {
-            names: Vec::new(alloc),
-        }
-    }
-
-    fn push(&mut self, name: LockName) -> Result<(), NoMemory>
-        ensures ok { OnOk result (self.new ≡ self.old ++ name ∷ []) }
-        ensures err { OnErr result (self.new ≡ self.old) }
-    {
-        self.names.push(name)?;
-        Ok(())
-    }
-
-    pub fn as_slice(&self) -> &[LockName]
-        ensures { result.now ≡ self.now }
-    {
-        &self.names
-    }
-}
+// Names in order.
+pub type NameList = Seq<LockName>;
 
 // For each transaction the names that it holds, so that its locks are found when it ends. Contracts see the list of
 // (transaction, names).

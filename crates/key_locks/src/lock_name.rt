@@ -5,7 +5,7 @@ use std::alloc::AllocError;
 use std::hash::{Hash, Hasher};
 
 /// What is locked.
-#[derive(Debug, Drop)]
+#[derive(Drop)]
 pub enum LockName {
     /// The name of a collection.
     Name(Name),

@@ -52,7 +52,7 @@ impl Locks {
     ///
     /// # Errors
     /// `Held` exactly where another holder's grant doesn't allow the request, with the first such holder in order of
-    /// grant; `NoMemory` for want of memory. After either nothing changed.
+    /// grant; `NoMemory` where it is out of memory. After either nothing changed.
     pub fn take(&mut self, txn: TxnId, name: &LockName, mode: LockMode) -> Result<(), TakeError>
         ensures granted { OnOk result (Alike self.new (granted self.old txn name.now mode)) }
         ensures free { OnOk result (conflict self.old txn name.now mode ≡ None) }

@@ -1,8 +1,31 @@
 use super::*;
-use rc_base::{Bytes, Epoch, Name, TxnId};
+use rc_base::{Bytes, Epoch, Name, NoMemory, TxnId};
 use std::alloc::Global;
 use std::process::Abort;
 use std::test::*;
+
+// What of the collection `d` is locked.
+#[derive(Clone, Copy)]
+enum Part {
+    Name,
+    Key(&'static str),
+    Head,
+    Tail,
+}
+
+const K: Part = Part::Key("k");
+
+const L: Part = Part::Key("l");
+
+#[derive(Clone, Copy)]
+enum Step {
+    // A transaction asks for a mode, and this one stands against it: none where it is granted.
+    Ask(u64, Part, LockMode, Option<u64>),
+    // A transaction's locks go.
+    Release(u64),
+    // The mode in which a transaction holds it.
+    Holds(u64, Part, Option<LockMode>),
+}
 
 fn txn(n: u64) -> TxnId {
     TxnId {
@@ -11,182 +34,161 @@ fn txn(n: u64) -> TxnId {
     }
 }
 
-fn key(alloc: Global, name: &[u8], key: &[u8]) -> Result<LockName, Fail> {
-    let name = Name::from_slice(alloc, name)?;
-    Ok(LockName::Key(name, Bytes::from_slice(alloc, key)?))
+fn key(alloc: Global, name: Name, key: &str) -> Result<LockName, NoMemory> {
+    Ok(LockName::Key(name, Bytes::from_slice(alloc, key.as_bytes())?))
 }
 
-// The number of the transaction that stands against the lock; none where it was granted.
-fn held_by(answer: Result<(), TakeError>) -> Result<Option<u64>, Fail> {
-    match answer {
-        Ok(()) => Ok(None),
-        Err(TakeError::Held { by }) => Ok(Some(by.n)),
-        Err(TakeError::NoMemory) => Err("out of memory")?,
+fn lock_name(alloc: Global, part: Part) -> Result<LockName, NoMemory> {
+    let name = Name::from_slice(alloc, b"d")?;
+    match part {
+        Part::Name => Ok(LockName::Name(name)),
+        Part::Key(text) => key(alloc, name, text),
+        Part::Head => Ok(LockName::Head(name)),
+        Part::Tail => Ok(LockName::Tail(name)),
     }
 }
 
-// A transaction that asks for a mode on a name, and the one that stands against that.
-type Request = (u64, LockMode, Option<u64>);
-
-// Each asks in turn, and is answered so.
-fn ask(
-    rt: &impl Abort,
+// The transaction that stands against the lock.
+fn asked(
+    alloc: Global,
     locks: &mut Locks,
-    name: &LockName,
-    requests: &[Request],
-) -> Result<(), Fail> {
-    for (n, mode, holder) in requests {
-        let answer = locks.take(txn(*n), name, *mode);
-        assert_eq!(rt; held_by(answer)?, *holder, "{n}");
+    n: u64,
+    part: Part,
+    mode: LockMode,
+) -> Result<Option<u64>, NoMemory> {
+    let name = lock_name(alloc, part)?.clone()?;
+    match locks.take(txn(n), &name, mode) {
+        Ok(()) => Ok(None),
+        Err(TakeError::Held { by }) => Ok(Some(by.n)),
+        Err(TakeError::NoMemory) => Err(NoMemory),
+    }
+}
+
+fn mode_held(
+    alloc: Global,
+    locks: &Locks,
+    n: u64,
+    part: Part,
+) -> Result<Option<LockMode>, NoMemory> {
+    let name = lock_name(alloc, part)?;
+    Ok(locks.mode_of(txn(n), &name))
+}
+
+fn play(rt: &impl Abort, alloc: Global, locks: &mut Locks, step: Step) -> Result<(), Fail> {
+    match step {
+        Step::Ask(n, part, mode, holder) => {
+            assert_eq!(rt; asked(alloc, locks, n, part, mode)?, holder, "{n}");
+        }
+        Step::Release(n) => locks.release(txn(n)),
+        Step::Holds(n, part, mode) => {
+            assert_eq!(rt; mode_held(alloc, locks, n, part)?, mode, "{n}");
+        }
     }
     Ok(())
 }
 
-// The mode in which the transaction holds the name.
-fn holds(rt: &impl Abort, locks: &Locks, n: u64, name: &LockName, mode: Option<LockMode>) {
-    assert!(rt; locks.mode_of(txn(n), name) == mode, "{n}");
+// A new lock table, and what transactions do.
+fn run(rt: &impl Abort, alloc: Global, steps: &[Step]) -> Result<(), Fail> {
+    let mut locks = Locks::new(alloc);
+    for step in steps {
+        play(rt, alloc, &mut locks, *step)?;
+    }
+    Ok(())
 }
 
-// Transaction 1 is granted a mode, and transaction 2 asks for one behind it.
-fn ask_behind(
-    rt: &impl Abort,
-    alloc: Global,
-    first: LockMode,
-    behind: LockMode,
-    holder: Option<u64>,
-) -> Result<(), Fail> {
-    let mut locks = Locks::new(alloc);
-    let name = key(alloc, b"d", b"k")?;
-    ask(
-        rt,
-        &mut locks,
-        &name,
-        &[(1, first, None), (2, behind, holder)],
-    )
-}
+// The mode that transaction 1 has, the one that transaction 2 asks for, and who stands against that.
+const MODES: [(LockMode, LockMode, Option<u64>); 9] = [
+    (LockMode::Shared, LockMode::Shared, None),
+    (LockMode::Shared, LockMode::Update, None),
+    (LockMode::Shared, LockMode::Exclusive, Some(1)),
+    (LockMode::Update, LockMode::Shared, Some(1)),
+    (LockMode::Update, LockMode::Update, Some(1)),
+    (LockMode::Update, LockMode::Exclusive, Some(1)),
+    (LockMode::Exclusive, LockMode::Shared, Some(1)),
+    (LockMode::Exclusive, LockMode::Update, Some(1)),
+    (LockMode::Exclusive, LockMode::Exclusive, Some(1)),
+];
 
 #[test]
 fn lock_table(rt: HostRuntime) -> Result<(), Fail> {
-    let table = [
-        (LockMode::Shared, LockMode::Shared, None),
-        (LockMode::Shared, LockMode::Update, None),
-        (LockMode::Shared, LockMode::Exclusive, Some(1)),
-        (LockMode::Update, LockMode::Shared, Some(1)),
-        (LockMode::Update, LockMode::Update, Some(1)),
-        (LockMode::Update, LockMode::Exclusive, Some(1)),
-        (LockMode::Exclusive, LockMode::Shared, Some(1)),
-        (LockMode::Exclusive, LockMode::Update, Some(1)),
-        (LockMode::Exclusive, LockMode::Exclusive, Some(1)),
-    ];
-    for (first, behind, holder) in table {
-        ask_behind(&rt, rt.alloc(), first, behind, holder)?;
+    for (first, second, holder) in MODES {
+        run(
+            &rt,
+            rt.alloc(),
+            &[
+                Step::Ask(1, K, first, None),
+                Step::Ask(2, K, second, holder),
+            ],
+        )?;
     }
     Ok(())
 }
 
-#[test]
-fn conflicting_writers(rt: HostRuntime) -> Result<(), Fail> {
-    let mut locks = Locks::new(rt.alloc());
-    let name = key(rt.alloc(), b"d", b"k")?;
-    let before = [
-        (2, LockMode::Exclusive, None),
-        (3, LockMode::Exclusive, Some(2)),
-    ];
-    ask(&rt, &mut locks, &name, &before)?;
-    locks.release(txn(2));
-    ask(&rt, &mut locks, &name, &[(3, LockMode::Exclusive, None)])
-}
+const CONFLICTING_WRITERS: &[Step] = &[
+    Step::Ask(2, K, LockMode::Exclusive, None),
+    Step::Ask(3, K, LockMode::Exclusive, Some(2)),
+    Step::Release(2),
+    Step::Ask(3, K, LockMode::Exclusive, None),
+];
+
+const SHARED_AGAIN_BESIDE_UPDATE: &[Step] = &[
+    Step::Ask(1, K, LockMode::Shared, None),
+    Step::Ask(2, K, LockMode::Update, None),
+    Step::Ask(1, K, LockMode::Shared, Some(2)),
+    Step::Holds(1, K, Some(LockMode::Shared)),
+];
+
+const FIRST_IN_ORDER_OF_GRANT: &[Step] = &[
+    Step::Ask(5, K, LockMode::Shared, None),
+    Step::Ask(3, K, LockMode::Shared, None),
+    Step::Ask(4, K, LockMode::Shared, None),
+    Step::Ask(4, K, LockMode::Exclusive, Some(5)),
+    Step::Ask(5, K, LockMode::Exclusive, Some(3)),
+    Step::Ask(3, K, LockMode::Update, None),
+    Step::Ask(6, K, LockMode::Shared, Some(3)),
+];
+
+const RELEASE_TAKES_ONE_AWAY: &[Step] = &[
+    Step::Ask(1, K, LockMode::Shared, None),
+    Step::Ask(2, K, LockMode::Shared, None),
+    Step::Ask(1, L, LockMode::Exclusive, None),
+    Step::Release(1),
+    Step::Holds(1, K, None),
+    Step::Holds(1, L, None),
+    Step::Holds(2, K, Some(LockMode::Shared)),
+    Step::Ask(1, K, LockMode::Exclusive, Some(2)),
+    Step::Ask(2, L, LockMode::Exclusive, None),
+    Step::Release(7),
+    Step::Holds(2, L, Some(LockMode::Exclusive)),
+];
+
+const STRONGEST_MODE_STAYS: &[Step] = &[
+    Step::Ask(1, K, LockMode::Shared, None),
+    Step::Ask(1, K, LockMode::Exclusive, None),
+    Step::Holds(1, K, Some(LockMode::Exclusive)),
+    Step::Ask(1, K, LockMode::Update, None),
+    Step::Holds(1, K, Some(LockMode::Exclusive)),
+];
+
+const FOUR_KINDS_OF_NAMES: &[Step] = &[
+    Step::Ask(1, Part::Name, LockMode::Exclusive, None),
+    Step::Ask(2, Part::Key("d"), LockMode::Exclusive, None),
+    Step::Ask(3, Part::Head, LockMode::Exclusive, None),
+    Step::Ask(4, Part::Tail, LockMode::Exclusive, None),
+    Step::Ask(5, Part::Tail, LockMode::Exclusive, Some(4)),
+];
 
 #[test]
-fn shared_again_beside_update(rt: HostRuntime) -> Result<(), Fail> {
-    let mut locks = Locks::new(rt.alloc());
-    let name = key(rt.alloc(), b"d", b"k")?;
-    let requests = [
-        (1, LockMode::Shared, None),
-        (2, LockMode::Update, None),
-        (1, LockMode::Shared, Some(2)),
-    ];
-    ask(&rt, &mut locks, &name, &requests)?;
-    holds(&rt, &locks, 1, &name, Some(LockMode::Shared));
-    Ok(())
-}
-
-#[test]
-fn first_in_order_of_grant(rt: HostRuntime) -> Result<(), Fail> {
-    let mut locks = Locks::new(rt.alloc());
-    let name = key(rt.alloc(), b"d", b"k")?;
-    let requests = [
-        (5, LockMode::Shared, None),
-        (3, LockMode::Shared, None),
-        (4, LockMode::Shared, None),
-        (4, LockMode::Exclusive, Some(5)),
-        (5, LockMode::Exclusive, Some(3)),
-        (3, LockMode::Update, None),
-        (6, LockMode::Shared, Some(3)),
-    ];
-    ask(&rt, &mut locks, &name, &requests)
-}
-
-#[test]
-fn release_takes_one_away(rt: HostRuntime) -> Result<(), Fail> {
-    let mut locks = Locks::new(rt.alloc());
-    let (k, l) = (key(rt.alloc(), b"d", b"k")?, key(rt.alloc(), b"d", b"l")?);
-    let shared = [(1, LockMode::Shared, None), (2, LockMode::Shared, None)];
-    ask(&rt, &mut locks, &k, &shared)?;
-    ask(&rt, &mut locks, &l, &[(1, LockMode::Exclusive, None)])?;
-    locks.release(txn(1));
-    holds(&rt, &locks, 1, &k, None);
-    holds(&rt, &locks, 1, &l, None);
-    holds(&rt, &locks, 2, &k, Some(LockMode::Shared));
-    ask(&rt, &mut locks, &k, &[(1, LockMode::Exclusive, Some(2))])?;
-    ask(&rt, &mut locks, &l, &[(2, LockMode::Exclusive, None)])?;
-    locks.release(txn(7));
-    holds(&rt, &locks, 2, &l, Some(LockMode::Exclusive));
-    Ok(())
-}
-
-#[test]
-fn strongest_mode_stays(rt: HostRuntime) -> Result<(), Fail> {
-    let mut locks = Locks::new(rt.alloc());
-    let name = key(rt.alloc(), b"d", b"k")?;
-    let rising = [(1, LockMode::Shared, None), (1, LockMode::Exclusive, None)];
-    ask(&rt, &mut locks, &name, &rising)?;
-    holds(&rt, &locks, 1, &name, Some(LockMode::Exclusive));
-    ask(&rt, &mut locks, &name, &[(1, LockMode::Update, None)])?;
-    holds(&rt, &locks, 1, &name, Some(LockMode::Exclusive));
-    Ok(())
-}
-
-fn name(alloc: Global) -> Result<Name, Fail> {
-    Ok(Name::from_slice(alloc, b"d")?)
-}
-
-// The transaction asks for a name whole.
-fn ask_whole(
-    rt: &impl Abort,
-    locks: &mut Locks,
-    n: u64,
-    name: LockName,
-    holder: Option<u64>,
-) -> Result<(), Fail> {
-    ask(rt, locks, &name, &[(n, LockMode::Exclusive, holder)])
-}
-
-#[test]
-fn four_kinds_of_names(rt: HostRuntime) -> Result<(), Fail> {
-    let alloc = rt.alloc();
-    let mut locks = Locks::new(alloc);
-    ask_whole(&rt, &mut locks, 1, LockName::Name(name(alloc)?), None)?;
-    ask_whole(&rt, &mut locks, 2, key(alloc, b"d", b"d")?, None)?;
-    ask_whole(&rt, &mut locks, 3, LockName::Head(name(alloc)?), None)?;
-    ask_whole(&rt, &mut locks, 4, LockName::Tail(name(alloc)?), None)?;
-    ask_whole(&rt, &mut locks, 5, LockName::Tail(name(alloc)?), Some(4))?;
-    Ok(())
-}
-
-#[test]
-fn a_clone_is_the_same_name(rt: HostRuntime) -> Result<(), Fail> {
-    let head = LockName::Head(name(rt.alloc())?);
-    assert!(rt; head.clone()? == head);
+fn locks_in_turn(rt: HostRuntime) -> Result<(), Fail> {
+    for steps in [
+        CONFLICTING_WRITERS,
+        SHARED_AGAIN_BESIDE_UPDATE,
+        FIRST_IN_ORDER_OF_GRANT,
+        RELEASE_TAKES_ONE_AWAY,
+        STRONGEST_MODE_STAYS,
+        FOUR_KINDS_OF_NAMES,
+    ] {
+        run(&rt, rt.alloc(), steps)?;
+    }
     Ok(())
 }
