@@ -9,12 +9,15 @@ use Rattle.rc_base.specs.declared.ids.TxnId.{TxnId}
 use Rattle.rc_base.specs.Names.{is_name_letter, is_name}
 use Rattle.coll_model.specs.declared.op.Kind.{Kind}
 use Rattle.coll_model.specs.declared.op.Kind.TheVariants as kinds
+use Rattle.coll_model.specs.Rows.{kind_word}
 use Rattle.events.specs.declared.event.Event.{Event}
 use Rattle.events.specs.declared.event.Event.TheVariants.{Boot, Client, Arm, Crash, Reboot, Inspect, Survey, Appoint, Activate}
 use Rattle.events.specs.declared.call.Call.{Call}
 use Rattle.events.specs.declared.call.Call.TheVariants as calls
+use Rattle.events.specs.declared.call.KeyCall.{KeyCall}
+use Rattle.events.specs.declared.call.KeyCall.TheVariants.{Get, GetForUpdate, Set, Add, Delete}
 use Rattle.script_text.specs.Letters.{is_key_letter, is_key_word, is_value_word}
-use Rattle.script_text.specs.Sentence.{words_at, words_of, epoch_text, txn_text, kind_text, members_text, IsEpoch, IsTxn, IsBuiltEpoch, IsBuiltTxn, IsBuiltCall, IsBuilt, Spells}
+use Rattle.script_text.specs.Sentence.{words_at, words_of, epoch_text, txn_text, members_text, IsEpoch, IsTxn, IsBuiltEpoch, key_verb, value_words, IsBuiltTxn, GivesValueWord, IsBuiltCall, IsBuilt, Spells}
 use Rattle.script_text.specs.Reading.{epoch_parts, txn_parts, IsSentence}
 use Rattle.script_text.proofs.Numbers.{Lacks, Lacks-decimal}
 use Rattle.script_text.proofs.Parts.{AllLack, Lacks-joined, joined_from_parts, parts_from_joined}
@@ -101,21 +104,30 @@ Lacks-key key is = Lacks-text is_key_letter key refl (both (leb 1 (length key) &
 Lacks-value : (value : List ℕ) → IsTrue (is_value_word value) → Lacks 32 value
 Lacks-value value is = Lacks-text is_key_letter value refl (both (leb 1 (length value) && leb (length value) 1024) (list_all is_key_letter value) is).1
 
-Lacks-kind : (kind : Kind) → Lacks 32 (kind_text kind)
+Lacks-kind : (kind : Kind) → Lacks 32 (kind_word kind)
 Lacks-kind kinds.Dict = search rules
 Lacks-kind kinds.Queue = search rules
+
+Lacks-verb : (call : KeyCall) → Lacks 32 (key_verb call)
+Lacks-verb Get = search rules
+Lacks-verb GetForUpdate = search rules
+Lacks-verb (Set value) = search rules
+Lacks-verb (Add value) = search rules
+Lacks-verb Delete = search rules
+
+AllLack-values : (call : KeyCall) → GivesValueWord call → AllLack 32 (value_words call)
+AllLack-values Get is = tt
+AllLack-values GetForUpdate is = tt
+AllLack-values (Set value) is = (Lacks-value value is, tt)
+AllLack-values (Add value) is = (Lacks-value value is, tt)
+AllLack-values Delete is = tt
 
 -- one line for each form
 AllLack-call : (r : ℕ) (call : Call) → r ≡ 0 → IsBuiltCall call → AllLack 32 (words_at r call)
 AllLack-call r calls.Begin zero is = (search rules, (Lacks-zero r zero, tt))
 AllLack-call r (calls.Make t name kind) zero is = (search rules, (Lacks-zero r zero, (Lacks-txn t is.0, (Lacks-name name is.1, (Lacks-kind kind, tt)))))
-AllLack-call r (calls.Get t name key) zero is = (search rules, (Lacks-zero r zero, (Lacks-txn t is.0, (Lacks-name name is.1, (Lacks-key key is.2, tt)))))
-AllLack-call r (calls.GetForUpdate t name key) zero is = (search rules, (Lacks-zero r zero, (Lacks-txn t is.0, (Lacks-name name is.1, (Lacks-key key is.2, tt)))))
-AllLack-call r (calls.Set t name key value) zero is =
-    (search rules, (Lacks-zero r zero, (Lacks-txn t is.0, (Lacks-name name is.1, (Lacks-key key is.2, (Lacks-value value is.3, tt))))))
-AllLack-call r (calls.Add t name key value) zero is =
-    (search rules, (Lacks-zero r zero, (Lacks-txn t is.0, (Lacks-name name is.1, (Lacks-key key is.2, (Lacks-value value is.3, tt))))))
-AllLack-call r (calls.Delete t name key) zero is = (search rules, (Lacks-zero r zero, (Lacks-txn t is.0, (Lacks-name name is.1, (Lacks-key key is.2, tt)))))
+AllLack-call r (calls.OnKey t name key call) zero is =
+    (Lacks-verb call, (Lacks-zero r zero, (Lacks-txn t is.0, (Lacks-name name is.1, (Lacks-key key is.2, AllLack-values call is.3)))))
 AllLack-call r (calls.Commit t) zero is = (search rules, (Lacks-zero r zero, (Lacks-txn t is, tt)))
 AllLack-call r (calls.Abort t) zero is = (search rules, (Lacks-zero r zero, (Lacks-txn t is, tt)))
 
@@ -190,21 +202,25 @@ no_appoint e p members r call same = grind arith
 no_activate : (e : Epoch) (r : ℕ) (call : Call) → words_of (Activate e) ≡ words_at r call → ⊥
 no_activate e r call same = grind arith
 
--- words are one event's
+-- words are one call's on a key
+same_key_call : (a b : KeyCall) → key_verb a ≡ key_verb b → value_words a ≡ value_words b → a ≡ b
+same_key_call Get Get verbs values = refl
+same_key_call GetForUpdate GetForUpdate verbs values = refl
+same_key_call (Set value) (Set other) verbs values = cc
+same_key_call (Add value) (Add other) verbs values = cc
+same_key_call Delete Delete verbs values = refl
+same_key_call _ _ verbs values = grind arith
+
+-- and one event's
 same_call : (r : ℕ) (a b : Call) → IsBuiltCall a → IsBuiltCall b → words_at r a ≡ words_at r b → a ≡ b
 same_call r calls.Begin calls.Begin is_a is_b e = refl
 same_call r (calls.Make t name kind) (calls.Make u other sort) is_a is_b e =
     let same = same_built t u is_a.0 is_b.0 cc in cc
-same_call r (calls.Get t name key) (calls.Get u other at) is_a is_b e =
-    let same = same_built t u is_a.0 is_b.0 cc in cc
-same_call r (calls.GetForUpdate t name key) (calls.GetForUpdate u other at) is_a is_b e =
-    let same = same_built t u is_a.0 is_b.0 cc in cc
-same_call r (calls.Set t name key value) (calls.Set u other at given) is_a is_b e =
-    let same = same_built t u is_a.0 is_b.0 cc in cc
-same_call r (calls.Add t name key value) (calls.Add u other at given) is_a is_b e =
-    let same = same_built t u is_a.0 is_b.0 cc in cc
-same_call r (calls.Delete t name key) (calls.Delete u other at) is_a is_b e =
-    let same = same_built t u is_a.0 is_b.0 cc in cc
+same_call r (calls.OnKey t name key call) (calls.OnKey u other at asked) is_a is_b e =
+    let same = same_built t u is_a.0 is_b.0 cc in
+    let verbs : key_verb call ≡ key_verb asked = cc in
+    let values : value_words call ≡ value_words asked = cc in
+    let asked_same : call ≡ asked = same_key_call call asked verbs values in cc
 same_call r (calls.Commit t) (calls.Commit u) is_a is_b e = ap calls.Commit (same_built t u is_a is_b cc)
 same_call r (calls.Abort t) (calls.Abort u) is_a is_b e = ap calls.Abort (same_built t u is_a is_b cc)
 same_call r _ _ is_a is_b e = grind arith

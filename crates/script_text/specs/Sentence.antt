@@ -5,12 +5,14 @@ use Rattle.std.specs.List.{join_with_byte}
 use Rattle.rc_base.specs.declared.ids.Epoch.{Epoch}
 use Rattle.rc_base.specs.declared.ids.TxnId.{TxnId}
 use Rattle.rc_base.specs.Names.{is_name}
-use Rattle.coll_model.specs.declared.op.Kind.{Kind}
 use Rattle.coll_model.specs.declared.op.Kind.TheVariants as kinds
+use Rattle.coll_model.specs.Rows.{kind_word}
 use Rattle.events.specs.declared.event.Event.{Event}
 use Rattle.events.specs.declared.event.Event.TheVariants.{Boot, Client, Arm, Crash, Reboot, Inspect, Survey, Appoint, Activate}
 use Rattle.events.specs.declared.call.Call.{Call}
 use Rattle.events.specs.declared.call.Call.TheVariants as calls
+use Rattle.events.specs.declared.call.KeyCall.{KeyCall}
+use Rattle.events.specs.declared.call.KeyCall.TheVariants.{Get, GetForUpdate, Set, Add, Delete}
 use Rattle.script_text.specs.Letters.{is_key_word, is_value_word}
 
 -- ---- words
@@ -26,21 +28,28 @@ txn_text t = join_with_byte 46 (decimal t.epoch.loss ∷ decimal t.epoch.number 
 abbrev pub members_text : List ℕ → List ℕ
 members_text members = join_with_byte 44 (map decimal members)
 
-abbrev pub kind_text : Kind → List ℕ
-kind_text kinds.Dict = codes "dict"
-kind_text kinds.Queue = codes "queue"
-
 -- ---- sentences
+
+-- the first word of a call on a key, and the value that it gives, if any
+abbrev pub key_verb : KeyCall → List ℕ
+key_verb Get = codes "get"
+key_verb GetForUpdate = codes "getu"
+key_verb (Set value) = codes "set"
+key_verb (Add value) = codes "add"
+key_verb Delete = codes "del"
+
+abbrev pub value_words : KeyCall → List (List ℕ)
+value_words Get = []
+value_words GetForUpdate = []
+value_words (Set value) = value ∷ []
+value_words (Add value) = value ∷ []
+value_words Delete = []
 
 -- the words of a call's sentence at a replica: one line for each form
 abbrev pub words_at : ℕ → Call → List (List ℕ)
 words_at r calls.Begin = codes "begin" ∷ decimal r ∷ []
-words_at r (calls.Make t name kind) = codes "make" ∷ decimal r ∷ txn_text t ∷ name ∷ kind_text kind ∷ []
-words_at r (calls.Get t name key) = codes "get" ∷ decimal r ∷ txn_text t ∷ name ∷ key ∷ []
-words_at r (calls.GetForUpdate t name key) = codes "getu" ∷ decimal r ∷ txn_text t ∷ name ∷ key ∷ []
-words_at r (calls.Set t name key value) = codes "set" ∷ decimal r ∷ txn_text t ∷ name ∷ key ∷ value ∷ []
-words_at r (calls.Add t name key value) = codes "add" ∷ decimal r ∷ txn_text t ∷ name ∷ key ∷ value ∷ []
-words_at r (calls.Delete t name key) = codes "del" ∷ decimal r ∷ txn_text t ∷ name ∷ key ∷ []
+words_at r (calls.Make t name kind) = codes "make" ∷ decimal r ∷ txn_text t ∷ name ∷ kind_word kind ∷ []
+words_at r (calls.OnKey t name key call) = key_verb call ∷ decimal r ∷ txn_text t ∷ name ∷ key ∷ value_words call
 words_at r (calls.Commit t) = codes "commit" ∷ decimal r ∷ txn_text t ∷ []
 words_at r (calls.Abort t) = codes "abort" ∷ decimal r ∷ txn_text t ∷ []
 
@@ -75,20 +84,24 @@ IsBuiltEpoch e = IsEpoch e × (e.loss ≡ 0)
 abbrev pub IsBuiltTxn : TxnId → Type 0
 IsBuiltTxn t = IsTxn t × (t.epoch.loss ≡ 0)
 
+-- the value that a call gives to a key is a value's word
+abbrev pub GivesValueWord : KeyCall → Type 0
+GivesValueWord Get = Unit {0}
+GivesValueWord GetForUpdate = Unit {0}
+GivesValueWord (Set value) = IsTrue (is_value_word value)
+GivesValueWord (Add value) = IsTrue (is_value_word value)
+GivesValueWord Delete = Unit {0}
+
 -- the words of a call have their letters and lengths, and its collections are of a kind that is built
 abbrev pub IsBuiltCall : Call → Type 0
 IsBuiltCall calls.Begin = Unit {0}
 IsBuiltCall (calls.Make t name kind) = IsBuiltTxn t × IsTrue (is_name name) × (kind ≡ kinds.Dict)
-IsBuiltCall (calls.Get t name key) = IsBuiltTxn t × IsTrue (is_name name) × IsTrue (is_key_word key)
-IsBuiltCall (calls.GetForUpdate t name key) = IsBuiltTxn t × IsTrue (is_name name) × IsTrue (is_key_word key)
-IsBuiltCall (calls.Set t name key value) = IsBuiltTxn t × IsTrue (is_name name) × IsTrue (is_key_word key) × IsTrue (is_value_word value)
-IsBuiltCall (calls.Add t name key value) = IsBuiltTxn t × IsTrue (is_name name) × IsTrue (is_key_word key) × IsTrue (is_value_word value)
-IsBuiltCall (calls.Delete t name key) = IsBuiltTxn t × IsTrue (is_name name) × IsTrue (is_key_word key)
+IsBuiltCall (calls.OnKey t name key call) = IsBuiltTxn t × IsTrue (is_name name) × IsTrue (is_key_word key) × GivesValueWord call
 IsBuiltCall (calls.Commit t) = IsBuiltTxn t
 IsBuiltCall (calls.Abort t) = IsBuiltTxn t
 
 -- Replica 0 is the one there is, and alone in each configuration; no epoch has a declared loss. A disk is armed for its
--- first later call, or one behind it.
+-- first later call, or one after it.
 abbrev pub IsBuilt : Event → Type 0
 IsBuilt (Boot p members) = (p ≡ 0) × (members ≡ 0 ∷ [])
 IsBuilt (Client r call) = (r ≡ 0) × IsBuiltCall call

@@ -1,12 +1,12 @@
 ghost use Rattle.std.specs.Prelude.{◌∷◌, codes, IfOk};
 ghost use Rattle.script_text.specs.Reading.{texts, AreReadAs};
 
-use crate::event::Event;
 use crate::operands::{built_epoch, built_members, built_replica};
+use events::Event;
 use rc_base::NoMemory;
 use std::alloc::Global;
 
-// `survey R E`, from the words behind the first, as are the others here.
+// `survey R E`, from the words after the first, as are the others here.
 pub(crate) fn survey(alloc: Global, operands: &[&[u8]]) -> Result<Option<Event>, NoMemory>
     ensures { IfOk result (AreReadAs (codes "survey" ∷ texts operands.now)) }
 {

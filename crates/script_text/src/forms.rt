@@ -5,9 +5,9 @@ ghost use Rattle.script_text.specs.Reading.{texts, IsSentence, AreReadAs};
 
 use crate::calls::call_of;
 use crate::changes::{activate, appoint, survey};
-use crate::event::Event;
 use crate::operands::{built_members, built_replica};
 use crate::stops::{arm, crash, inspect, reboot};
+use events::Event;
 use rc_base::NoMemory;
 use std::alloc::Global;
 
@@ -21,7 +21,7 @@ pub(crate) fn sentence(alloc: Global, words: &[&[u8]]) -> Result<Option<Event>, 
     event_of(alloc, verb, operands)
 }
 
-// The event of a first word and those behind it. What is no form of its own is a client's call.
+// The event of a first word and those after it. What is no form of its own is a client's call.
 fn event_of(alloc: Global, verb: &[u8], operands: &[&[u8]]) -> Result<Option<Event>, NoMemory>
     ensures { IfOk result (AreReadAs (verb.now ∷ texts operands.now)) }
 {
@@ -38,7 +38,7 @@ fn event_of(alloc: Global, verb: &[u8], operands: &[&[u8]]) -> Result<Option<Eve
     }
 }
 
-// `boot P MEMBERS`, from the words behind the first.
+// `boot P MEMBERS`, from the words after the first.
 fn boot(alloc: Global, operands: &[&[u8]]) -> Result<Option<Event>, NoMemory>
     ensures { IfOk result (AreReadAs (codes "boot" ∷ texts operands.now)) }
 {

@@ -3,14 +3,10 @@
 
 mod calls;
 mod changes;
-mod event;
 mod forms;
 mod operands;
 mod read;
-mod replicas;
 mod stops;
 pub mod words;
 
-pub use event::{Call, Event};
 pub use read::{ScriptError, read_event};
-pub use replicas::Replicas;

@@ -4,11 +4,12 @@ ghost use Rattle.rc_base.specs.declared.ids.TxnId.{TxnId as TxnValue};
 ghost use Rattle.rc_base.specs.Names as names;
 ghost use Rattle.coll_model.specs.declared.op.Kind.TheVariants as kinds;
 ghost use Rattle.script_text.specs.Letters as letters;
-ghost use Rattle.script_text.specs.Sentence.{IsBuiltEpoch, IsBuiltTxn, epoch_text, txn_text, members_text, kind_text};
+ghost use Rattle.script_text.specs.Sentence.{IsBuiltEpoch, IsBuiltTxn, epoch_text, txn_text, members_text};
+ghost use Rattle.coll_model.specs.Rows.{kind_word};
 
-use crate::replicas::Replicas;
 use crate::words::{epoch, key_of, name_of, replica, txn};
 use coll_model::Kind;
+use events::Replicas;
 use rc_base::{Bytes, Epoch, Name, NoMemory, ReplicaId, TxnId};
 use std::alloc::{AllocError, Global};
 
@@ -59,7 +60,7 @@ pub(crate) fn built_txn(alloc: Global, word: &[u8]) -> Result<Option<TxnId>, All
 
 // The kind `dict`: there is no other so far.
 pub(crate) fn built_kind(word: &[u8]) -> Option<Kind>
-    ensures some { IfSome result (λ kind. (kind ≡ kinds.Dict) × (word.now ≡ kind_text kind)) }
+    ensures some { IfSome result (λ kind. (kind ≡ kinds.Dict) × (word.now ≡ kind_word kind)) }
     ensures none { IfNone result (word.now ≡ codes "dict" → ⊥) }
 {
     if word == b"dict".as_slice() {

@@ -1,11 +1,11 @@
 ghost use Rattle.std.specs.Prelude.{◌≡◌, ◌↔◌, IsTrue, ℕ, List, IfOk, IfSome, IfNone, IsErrOf};
 ghost use Rattle.events.specs.declared.event.Event.{Event};
 ghost use Rattle.script_text.specs.Sentence.{Spells, IsSkipped, IsBad};
-ghost use Rattle.script_text.specs.declared.read.ScriptError.TheVariants.{NoMemory as WantOfMemory};
+ghost use Rattle.script_text.specs.declared.read.ScriptError.TheVariants.{NoMemory as OutOfMemory};
 
-use crate::event::Event;
 use crate::forms::sentence;
 use crate::words::parts_of;
+use events::Event;
 use rc_base::NoMemory;
 use std::alloc::{AllocError, Global};
 use thiserror::Error;
@@ -16,13 +16,13 @@ pub enum ScriptError {
     /// The line is no sentence that is built, and it is not skipped.
     #[error("no sentence")]
     BadLine,
-    /// Want of memory.
+    /// Out of memory.
     #[error("out of memory")]
     NoMemory,
 }
 
 impl From<NoMemory> for ScriptError {
-    ghost from_gives = { λ _ e. e ≡ WantOfMemory };
+    ghost from_gives = { λ _ e. e ≡ OutOfMemory };
 
     fn from(_e: NoMemory) -> ScriptError {
         ScriptError::NoMemory
@@ -30,7 +30,7 @@ impl From<NoMemory> for ScriptError {
 }
 
 impl From<AllocError> for ScriptError {
-    ghost from_gives = { λ _ e. e ≡ WantOfMemory };
+    ghost from_gives = { λ _ e. e ≡ OutOfMemory };
 
     fn from(_e: AllocError) -> ScriptError {
         ScriptError::NoMemory
@@ -40,7 +40,7 @@ impl From<AllocError> for ScriptError {
 /// The event of a line without its LF, or none for a line that is skipped.
 ///
 /// # Errors
-/// `BadLine` exactly where the line is neither skipped nor a sentence; `NoMemory` for want of memory.
+/// `BadLine` exactly where the line is neither skipped nor a sentence; `NoMemory` where memory is out.
 pub fn read_event(alloc: Global, line: &[u8]) -> Result<Option<Event>, ScriptError>
     ensures event { IfOk result (λ read. IfSome read (Spells line.now)) }
     ensures skipped { IfOk result (λ read. IfNone read (IsSkipped line.now)) }

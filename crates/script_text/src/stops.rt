@@ -1,11 +1,11 @@
 ghost use Rattle.std.specs.Prelude.{◌∷◌, codes};
 ghost use Rattle.script_text.specs.Reading.{texts, AreReadAs};
 
-use crate::event::Event;
 use crate::operands::built_replica;
 use crate::words::number;
+use events::Event;
 
-// `arm R K`, from the words behind the first, as are the others here. No call is the 0th.
+// `arm R K`, from the words after the first, as are the others here. No call is the 0th.
 pub(crate) fn arm(operands: &[&[u8]]) -> Option<Event>
     ensures { AreReadAs (codes "arm" ∷ texts operands.now) result }
 {

@@ -16,7 +16,7 @@ use std::alloc::{AllocError, Global};
 /// The parts of a text, between the bytes that separate them.
 ///
 /// # Errors
-/// Want of memory.
+/// Out of memory.
 pub fn parts_of(alloc: Global, separator: u8, text: &[u8]) -> Result<Vec<&[u8]>, AllocError>
     ensures { IfOk result (λ v. texts v.items ≡ slice_split (λ b. b == separator) text.now) }
 {
@@ -64,7 +64,7 @@ pub fn replica(word: &[u8]) -> Option<ReplicaId>
 /// The epoch of a text.
 ///
 /// # Errors
-/// Want of memory.
+/// Out of memory.
 pub fn epoch(alloc: Global, word: &[u8]) -> Result<Option<Epoch>, AllocError>
     ensures some { IfOk result (λ read. IfSome read (λ e. IsEpoch e × (word.now ≡ epoch_text e))) }
     ensures none { IfOk result (λ read. IfNone read ((e : EpochValue) → IsEpoch e → word.now ≡ epoch_text e → ⊥)) }
@@ -89,7 +89,7 @@ fn epoch_of_parts(parts: &[&[u8]]) -> Option<Epoch>
 /// The transaction of a text.
 ///
 /// # Errors
-/// Want of memory.
+/// Out of memory.
 pub fn txn(alloc: Global, word: &[u8]) -> Result<Option<TxnId>, AllocError>
     ensures some { IfOk result (λ read. IfSome read (λ t. IsTxn t × (word.now ≡ txn_text t))) }
     ensures none { IfOk result (λ read. IfNone read ((t : TxnId) → IsTxn t → word.now ≡ txn_text t → ⊥)) }
@@ -116,7 +116,7 @@ fn txn_of_parts(parts: &[&[u8]]) -> Option<TxnId>
 /// The name of a word, where it is one.
 ///
 /// # Errors
-/// Want of memory.
+/// Out of memory.
 pub fn name_of(alloc: Global, word: &[u8]) -> Result<Option<Name>, NoMemory>
     ensures some { IfOk result (λ read. IfSome read (λ name. IsTrue (names.is_name name) × (word.now ≡ name))) }
     ensures none { IfOk result (λ read. IfNone read (IsTrue (names.is_name word.now) → ⊥)) }
@@ -130,7 +130,7 @@ pub fn name_of(alloc: Global, word: &[u8]) -> Result<Option<Name>, NoMemory>
 /// The key of a word, where it is one.
 ///
 /// # Errors
-/// Want of memory.
+/// Out of memory.
 pub fn key_of(alloc: Global, word: &[u8]) -> Result<Option<Bytes>, NoMemory>
     ensures some { IfOk result (λ read. IfSome read (λ key. IsTrue (letters.is_key_word key) × (word.now ≡ key))) }
     ensures none { IfOk result (λ read. IfNone read (IsTrue (letters.is_key_word word.now) → ⊥)) }
@@ -144,7 +144,7 @@ pub fn key_of(alloc: Global, word: &[u8]) -> Result<Option<Bytes>, NoMemory>
 /// The value of a word, where it is one.
 ///
 /// # Errors
-/// Want of memory.
+/// Out of memory.
 pub fn value_of(alloc: Global, word: &[u8]) -> Result<Option<Bytes>, NoMemory>
     ensures some { IfOk result (λ read. IfSome read (λ value. IsTrue (letters.is_value_word value) × (word.now ≡ value))) }
     ensures none { IfOk result (λ read. IfNone read (IsTrue (letters.is_value_word word.now) → ⊥)) }
