@@ -1,6 +1,7 @@
 use coll_model::Kind;
+use events::{Call, Event, KeyCall};
 use script_text::words::epoch;
-use script_text::{Call, Event, ScriptError, read_event};
+use script_text::{ScriptError, read_event};
 use std::alloc::Global;
 use std::process::Abort;
 use std::test::*;
@@ -10,7 +11,7 @@ use std::test::*;
 fn words_are_fields(rt: HostRuntime) -> Result<(), Fail> {
     let set = read_event(rt.alloc(), b"set 0 0.4294967295.7 a_z-0 aZ/09_.- Az.1")?;
     assert!(rt;
-        matches!(&set, Some(Event::Client(r, Call::Set(t, name, key, value))) if r.number() == 0
+        matches!(&set, Some(Event::Client(r, Call::OnKey(t, name, key, KeyCall::Set(value)))) if r.number() == 0
         && (t.epoch.loss, t.epoch.number, t.n) == (0, 4294967295, 7) && name.as_slice() == b"a_z-0".as_slice()
         && key.as_slice() == b"aZ/09_.-".as_slice() && value.as_slice() == b"Az.1".as_slice())
     );

@@ -1,9 +1,10 @@
 use log_records::CodecError;
-use order_machine::{Observation, Observations, print, read_obs};
+use order_machine::{Observation, Observations};
 use rc_base::ReplicaId;
 use std::alloc::Global;
 use std::process::Abort;
 use std::test::*;
+use transcript_text::{print, read_obs};
 
 // The variant of a line.
 fn variant(observation: &Observation) -> &'static str {
@@ -93,7 +94,7 @@ fn printed(alloc: Global, observations: &[Observation]) -> Result<Vec<u8>, Fail>
     Ok(out)
 }
 
-// A line comes behind what was printed before.
+// A line comes after what was printed before.
 #[test]
 fn a_line_after_another(rt: HostRuntime) -> Result<(), Fail> {
     let zero = ReplicaId::new(0).ok_or("a replica is below 9")?;

@@ -3,14 +3,15 @@ use Rattle.std.specs.Prelude.{◌≡◌, ◌≢◌, ℕ, ◌<◌, ◌^◌, All, 
 use Rattle.std.specs.List.{join_with_byte}
 use Rattle.coll_model.specs.declared.op.Op.{Op}
 use Rattle.coll_model.specs.declared.op.Op.TheVariants.{Make, Unmake, Put, Del, Push, Pop}
-use Rattle.script_text.specs.Sentence.{epoch_text, txn_text, kind_text, IsEpoch, IsTxn}
+use Rattle.script_text.specs.Sentence.{epoch_text, txn_text, IsEpoch, IsTxn}
+use Rattle.coll_model.specs.Rows.{kind_word}
 use Rattle.order_machine.specs.declared.observation.Observation.{Observation}
 use Rattle.order_machine.specs.declared.observation.Observation.TheVariants as says
 use Rattle.order_machine.specs.Legal.{Step}
 
 -- the parts of an operation's word, which colons join
 abbrev pub op_parts : Op → List (List ℕ)
-op_parts (Make name kind) = codes "make" ∷ name ∷ kind_text kind ∷ []
+op_parts (Make name kind) = codes "make" ∷ name ∷ kind_word kind ∷ []
 op_parts (Unmake name) = codes "drop" ∷ name ∷ []
 op_parts (Put name key value) = codes "put" ∷ name ∷ key ∷ value ∷ []
 op_parts (Del name key) = codes "del" ∷ name ∷ key ∷ []

@@ -5,8 +5,7 @@ ghost use Rattle.transcript_text.specs.WordReading.{Reads, order_words, IsOrder,
 
 use crate::op_words::op_of;
 use crate::word_error::{WordError, wrong};
-use crate::word_list::Words;
-use coll_model::Ops;
+use coll_model::{Ops, Words};
 use rc_base::{Bytes, TxnId};
 use script_text::words::{is_key_word, is_value_word, parts_of, txn};
 use std::alloc::{AllocError, Global};

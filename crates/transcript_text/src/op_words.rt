@@ -2,7 +2,7 @@ ghost use Rattle.std.specs.Prelude.{◌≡◌, ◌∷◌, codes, IfOk, IfSome, I
 ghost use Rattle.coll_model.specs.declared.op.Op.{Op as OpValue};
 ghost use Rattle.coll_model.specs.declared.op.Kind.{Kind as KindValue};
 ghost use Rattle.script_text.specs.Reading.{texts};
-ghost use Rattle.script_text.specs.Sentence.{kind_text};
+ghost use Rattle.coll_model.specs.Rows.{kind_word};
 ghost use Rattle.transcript_text.specs.Lines.{op_text};
 ghost use Rattle.transcript_text.specs.Said.{IsSaidOp};
 ghost use Rattle.transcript_text.specs.WordReading.{AreReadAsOp};
@@ -129,8 +129,8 @@ fn pop(alloc: Global, parts: &[&[u8]]) -> Result<Option<Op>, NoMemory>
 
 // The kind of a word.
 fn kind_of(word: &[u8]) -> Option<Kind>
-    ensures some { IfSome result (λ kind. word.now ≡ kind_text kind) }
-    ensures none { IfNone result ((kind : KindValue) → word.now ≡ kind_text kind → ⊥) }
+    ensures some { IfSome result (λ kind. word.now ≡ kind_word kind) }
+    ensures none { IfNone result ((kind : KindValue) → word.now ≡ kind_word kind → ⊥) }
 {
     match word {
         word if word == b"dict".as_slice() => Some(Kind::Dict),

@@ -10,13 +10,13 @@ ghost use Rattle.transcript_text.specs.WordReading.{Reads, bare_words, form_word
 use crate::cause::{Cause, cause_of};
 use crate::form::{Form, form_of};
 use crate::list_words::{order, row_words};
-use crate::observation::Observation;
 use crate::operands::{
     nothing, one_part, one_replica, one_txn, one_value, replica_and_end, replica_and_number,
     two_epochs,
 };
 use crate::word_error::{WordError, wrong};
 use log_records::CodecError;
+use order_machine::Observation;
 use script_text::words::{number, parts_of};
 use std::alloc::Global;
 

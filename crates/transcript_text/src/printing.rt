@@ -1,11 +1,12 @@
 ghost use Rattle.std.specs.Prelude.{◌≡◌, ◌++◌, ◌∷◌, [], OnOk, OnErr, codes, decimal, flat_map};
 ghost use Rattle.std.specs.Io.{StartsWith};
-ghost use Rattle.script_text.specs.Sentence.{epoch_text, txn_text, kind_text};
+ghost use Rattle.script_text.specs.Sentence.{epoch_text, txn_text};
+ghost use Rattle.coll_model.specs.Rows.{kind_word};
 ghost use Rattle.transcript_text.specs.Lines.{line_text, words_of, op_text};
 
-use crate::observation::Observation;
 use coll_model::{Kind, Op};
 use itoa::Buffer;
+use order_machine::Observation;
 use rc_base::{Bytes, Epoch, NoMemory, ReplicaId, TxnId};
 
 // what stands before each word of a line
@@ -192,7 +193,7 @@ fn write_named(verb: &[u8], name: &[u8], out: &mut Vec<u8>) -> Result<(), NoMemo
 }
 
 fn write_kind(kind: Kind, out: &mut Vec<u8>) -> Result<(), NoMemory>
-    ensures ok { OnOk result (out.new.items ≡ out.old.items ++ COLON ∷ kind_text kind) }
+    ensures ok { OnOk result (out.new.items ≡ out.old.items ++ COLON ∷ kind_word kind) }
     ensures kept { StartsWith out.new.items out.old.items }
 {
     match kind {
