@@ -1,5 +1,5 @@
 -- Vectors as areas.
-use Rattle.std.proofs.Common.{◌≡◌, ◌≢◌, inl, inr, ℕ, zero, suc, ◌≤◌, ◌<◌, List, [], ◌∷◌, length, get_or, set, refl, sym, ◌∙◌, ap, subst, arith, rules, Vec, vec_capacity, Bool, true, false, Result, Ok, Err, IsOk, is_ok, if◌then◌else◌}
+use Rattle.std.proofs.Common.{◌≡◌, ◌≢◌, inl, inr, ℕ, zero, suc, ◌≤◌, ◌<◌, List, [], ◌∷◌, length, get_or, set, refl, sym, ◌∙◌, ap, subst, arith, rules, Vec, vec_capacity, Result, Ok, Err, IsOk, is_ok, if◌then◌else◌}
 use Rattle.std.proofs.lemmas.Bool.{cases_eq}
 use Rattle.std.proofs.lemmas.Bool.Decides.{nat_tests}
 use Rattle.std.specs.declared.alloc.Global.{Global}
@@ -67,7 +67,3 @@ held_past (v ∷ vs) (suc a) past = held_past vs a (omega arith)
 pub where_ok : {T E X : Type 0} (r : Result T E) (x a b : List X) → IsOk r → x ≡ (if is_ok r then a else b) → x ≡ a
 where_ok (Ok v) x a b ok is = is
 where_ok (Err e) x a b ok is = absurd (search rules)
-
-pub is_false : (b : Bool) → (b ≡ true → ⊥) → b ≡ false
-is_false true h = absurd (h refl)
-is_false false h = refl

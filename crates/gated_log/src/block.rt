@@ -4,9 +4,8 @@ ghost use Rattle.std.specs.Int.{w32, to_be_bytes};
 ghost use Rattle.gated_log.specs.Blocks.{IsPayload, AllPayloads, OpensWith, open_blocks, block, behind_gate, spelling};
 ghost use Rattle.gated_log.specs.Log.{placed_from};
 
-use rc_base::{Bytes, NoMemory};
+use rc_base::{Bytes, NoMemory, Seq};
 use std::alloc::Global;
-use std::marker::Model;
 
 // The greatest length of a payload in bytes.
 const MAX_PAYLOAD: usize = 1_048_576;
@@ -18,43 +17,8 @@ pub struct Block {
     pub payload: Bytes,
 }
 
-/// The open blocks of an area, in their order. Contracts see the list of them.
-#[derive(Drop)]
-pub struct Blocks {
-    blocks: Vec<Block>,
-}
-
-impl Model for Blocks {
-    ghost use Rattle.std.specs.Prelude.{List};
-    ghost use Rattle.gated_log.specs.declared.block.Block.{Block};
-
-    ghost Value = { List Block };
-
-    ghost view = { λ b. b.blocks.items };
-}
-
-impl Blocks {
-    /// The blocks of a vector, without a copy.
-    pub fn from_vec(blocks: Vec<Block>) -> Blocks
-        ensures { result ≡ blocks.items }
-    {
-        Blocks { blocks }
-    }
-
-    /// The vector again, without a copy.
-    pub fn into_vec(self) -> Vec<Block>
-        ensures { result.items ≡ self }
-    {
-        let Blocks { blocks } = self;
-        blocks
-    }
-
-    pub fn as_slice(&self) -> &[Block]
-        ensures { result.now ≡ self.now }
-    {
-        &self.blocks
-    }
-}
+/// The open blocks of an area, in their order.
+pub type Blocks = Seq<Block>;
 
 // The length of the payload of the block at the front, if it is open.
 fn open_at(bytes: &[u8]) -> Option<usize>
@@ -98,7 +62,7 @@ pub(crate) fn walk(alloc: Global, bytes: &[u8]) -> Result<(Blocks, u64), NoMemor
         })?;
         at = end;
     }
-    Ok((Blocks { blocks }, at as u64))
+    Ok((Blocks::from_vec(blocks), at as u64))
 }
 
 // Adds an open block at the end of the bytes.

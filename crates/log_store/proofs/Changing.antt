@@ -1,5 +1,5 @@
 -- What changes of the log areas do to what a disk holds.
-use Rattle.std.proofs.Common.{◌≡◌, ◌≢◌, ◌⊎◌, inl, inr, ℕ, ◌<◌, Bool, true, false, List, [], ◌∷◌, ◌++◌, Option, Some, None, Ok, refl, sym, ap, ◌∙◌, subst, arith}
+use Rattle.std.proofs.Common.{◌≡◌, ◌≢◌, inl, inr, ℕ, ◌<◌, Bool, true, false, List, [], ◌∷◌, ◌++◌, Option, Some, None, Ok, refl, sym, ap, ◌∙◌, subst, arith}
 use Rattle.std.specs.Prelude.{if◌then◌else◌}
 use Rattle.std.specs.Option.{option_and_then}
 use Rattle.std.proofs.lemmas.Bool.{cases_eq}
@@ -9,6 +9,7 @@ use Rattle.gated_log.specs.Blocks.{open_blocks, Keeps, Gains}
 use Rattle.gated_log.specs.Log.{placed_from}
 use Rattle.log_records.specs.declared.record.Physical.{Physical}
 use Rattle.log_records.specs.declared.record.Physical.TheVariants.{Head}
+use Rattle.log_records.proofs.FieldCodec.{slot_cases}
 use Rattle.barrier_group.specs.Group.{spelled, AllPhysical}
 use Rattle.log_store.specs.declared.kept.Kept.{Kept}
 use Rattle.log_store.specs.Payload.{records_of}
@@ -140,13 +141,10 @@ gained_second d c payload items v t ch read holds goes =
       };
     }
 
-low_cases : (n : ℕ) → n < 2 → (n ≡ 0) ⊎ (n ≡ 1)
-low_cases n low = elim (cases_eq n 0) [ inl zero ↦ inl zero | inr some ↦ inr (omega (arith, some)) ]
-
 pub gained : (area : ℕ) (d c : Areas) (payload : List ℕ) (items : List Physical) (v : Kept) → IsTaken area d → Changes area (Gains payload) d c → payload ≡ spelled items → AllPhysical items → durable d ≡ Ok v → GoesOn v items → Gained area c (after v items)
 gained area d c payload items v t ch is all holds goes =
     let read : records_of payload ≡ Some items = ap records_of is ∙ records_spelled items all in
-    elim (low_cases area (taken_low area d t)) [
+    elim (slot_cases area (taken_low area d t)) [
       | inl zero ↦ subst (λ (a : ℕ). Gained a c (after v items)) (sym zero)
           (gained_first d c payload items v (subst (λ (a : ℕ). IsTaken a d) zero t) (subst (λ (a : ℕ). Changes a (Gains payload) d c) zero ch) read holds goes)
       | inr one ↦ subst (λ (a : ℕ). Gained a c (after v items)) (sym one)

@@ -1,7 +1,7 @@
 -- Records that go on with a log.
-use Rattle.std.proofs.Common.{◌≡◌, ℕ, ◌+◌, ◌==◌, Bool, true, ◌&&◌, List, [], ◌∷◌, ◌++◌, length, Option, Some, None, Result, Ok, Err, refl, sym, ap, ◌∙◌, subst, arith}
+use Rattle.std.proofs.Common.{◌≡◌, ℕ, ◌+◌, Bool, List, [], ◌∷◌, ◌++◌, length, Option, Some, None, Result, Ok, Err, refl, sym, ap, ◌∙◌, subst}
 use Rattle.std.specs.Prelude.{if◌then◌else◌}
-use Rattle.std.proofs.lemmas.Bool.Decides.{nat_tests}
+use Rattle.std.proofs.lemmas.Bool.{and_from, eq-eqb}
 use Rattle.std.specs.Option.{option_and_then}
 use Rattle.rc_base.specs.declared.ids.Epoch.{Epoch}
 use Rattle.gated_log.specs.declared.block.Block.{Block}
@@ -28,12 +28,6 @@ record Steps (place : ℕ) (s : Standing) (item : Physical) : Type 0 where
   kept : kept_of next ≡ after_one (kept_of s) item
   right : first_wrong [] next.rows ≡ None
 
-both : (a b : Bool) → a ≡ true → b ≡ true → a && b ≡ true
-both a b p q = grind (arith, nat_tests)
-
-is_same : (n m : ℕ) → n ≡ m → (n == m) ≡ true
-is_same n m e = grind (arith, nat_tests)
-
 steps : (place : ℕ) (s : Standing) (item : Physical) → MayCome (kept_of s) item → first_wrong [] s.rows ≡ None → Steps place s item
 steps place s (Fence epoch) may right = record {
   next = record { identity = s.identity; fenced = later s.fenced epoch; rows = s.rows };
@@ -51,7 +45,7 @@ steps place s (Logical lsn epoch body) may right =
     let next : Standing = record { identity = s.identity; fenced = s.fenced; rows = s.rows ++ row ∷ [] } in
     record {
       next = next;
-      is = ap (λ (b : Bool). if b then Some next else None) (both _ _ (is_same _ _ position) may.1.follows);
+      is = ap (λ (b : Bool). if b then Some next else None) (and_from _ _ (eq-eqb _ _ position) may.1.follows);
       kept = ap (λ (e : Epoch). record { identity = Some s.identity; fence = e; records = items_of (s.rows ++ row ∷ []) }) fence
           ∙ ap (λ (l : List (Epoch × Record)). record { identity = Some s.identity; fence = later (later s.fenced (last_epoch (items_of s.rows))) epoch; records = l }) items;
       right = right-push [] s.rows row right (in_place (items_of s.rows) row may.1.stands may.1.linked);

@@ -2,6 +2,7 @@
 use Rattle.std.proofs.Common.{append_assoc, ◌≡◌, ℕ, ◌+◌, ◌==◌, Bool, true, false, ◌&&◌, nat_le, List, [], ◌∷◌, ◌++◌, length, Option, Some, None, Result, Ok, Err, refl, sym, ap, ◌∙◌, subst, arith}
 use Rattle.std.specs.Prelude.{IsTrue, if◌then◌else◌, nat_le}
 use Rattle.std.specs.Option.{option_and_then}
+use Rattle.std.proofs.lemmas.Bool.{and_parts}
 use Rattle.std.proofs.lemmas.List.{append-nil}
 use Rattle.rc_base.specs.declared.ids.Epoch.{Epoch}
 use Rattle.gated_log.specs.declared.block.Block.{Block}
@@ -15,7 +16,6 @@ use Rattle.log_store.specs.Payload.{records_of}
 use Rattle.log_store.specs.Log.{Items, last_epoch, may_follow, IsLogBehind, IsLog}
 use Rattle.log_store.specs.Fold.{Place, told, and_then, items_of, is_in_place, first_wrong, opening, step, folded, reset_at, opened, behind_items, behind_block, behind_blocks, no_log, kept_of, held_by}
 use Rattle.log_store.specs.Durable.{second_holds, durable_of}
-use Rattle.log_store.proofs.Order.{both_true}
 use Rattle.log_store.proofs.Rows.{items_of-append, stands_in_place, linked_in_place}
 use Rattle.log_store.proofs.Growing.{held, ok_is}
 
@@ -53,7 +53,7 @@ step_order place s (Logical lsn epoch body) t order is = by ((lsn.0 == length s.
 
     by : (b : Bool) → ((lsn.0 == length s.rows + 1) && may_follow (last_epoch (items_of s.rows)) epoch body) ≡ b → (if b then Some next else None) ≡ Some t → InOrder t
     by true may e =
-        let follows = both_true (lsn.0 == length s.rows + 1) (may_follow (last_epoch (items_of s.rows)) epoch body) may in
+        let follows = (and_parts (lsn.0 == length s.rows + 1) (may_follow (last_epoch (items_of s.rows)) epoch body) may).1 in
         subst InOrder (some_is next t e) (subst (λ (l : Items). Follow [] l) (sym (items_of-append s.rows (row ∷ []))) (follow_push [] (items_of s.rows) (epoch, body) order follows))
     by false may e = absurd cc
 step_order place s (TruncateTail lsn) t order is = absurd cc

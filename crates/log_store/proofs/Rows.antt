@@ -2,7 +2,7 @@
 use Rattle.std.proofs.Common.{append_assoc, ◌≡◌, ℕ, zero, suc, ◌+◌, Bool, true, false, ◌&&◌, List, [], ◌∷◌, ◌++◌, length, get_or, Option, Some, None, refl, sym, ap, ◌∙◌, subst, arith}
 use Rattle.std.specs.Prelude.{IsTrue, if◌then◌else◌}
 use Rattle.std.specs.Option.{is_none}
-use Rattle.std.proofs.lemmas.Bool.{false≢true}
+use Rattle.std.proofs.lemmas.Bool.{and_parts, false≢true}
 use Rattle.std.proofs.lemmas.List.{append-nil}
 use Rattle.rc_base.specs.declared.ids.Lsn.{Lsn}
 use Rattle.rc_base.specs.declared.ids.Epoch.{Epoch}
@@ -11,7 +11,6 @@ use Rattle.log_store.specs.declared.kept.Row.{Row}
 use Rattle.txn_table.specs.Commits.{fault_in}
 use Rattle.log_store.specs.Log.{Items, last_from, may_stand, known_in}
 use Rattle.log_store.specs.Fold.{items_of, is_in_place, first_wrong}
-use Rattle.log_store.proofs.Order.{both_true}
 
 pub items_of-append : (xs ys : List Row) → items_of (xs ++ ys) ≡ items_of xs ++ items_of ys
 items_of-append [] ys = refl
@@ -59,7 +58,7 @@ stands_in_place before row is = by (may_stand (length before + 1) row.epoch row.
     by false b e = e
 
 pub linked_in_place : (before : Items) (row : Row) → is_in_place before row ≡ true → fault_in (known_in before) row.body ≡ None
-linked_in_place before row is = by (fault_in (known_in before) row.body) (both_true (may_stand (length before + 1) row.epoch row.body) (is_none (fault_in (known_in before) row.body)) is)
+linked_in_place before row is = by (fault_in (known_in before) row.body) (and_parts (may_stand (length before + 1) row.epoch row.body) (is_none (fault_in (known_in before) row.body)) is).1
   where
     by : (o : Option (Lsn × Lsn)) → is_none o ≡ true → o ≡ None
     by None e = refl

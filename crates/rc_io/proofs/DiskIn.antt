@@ -2,7 +2,7 @@
 use Rattle.std.proofs.Common.{◌≡◌, ◌≢◌, ◌∙◌, ℕ, zero, suc, ◌+◌, ◌<◌, ◌≤◌, List, [], ◌∷◌, ◌++◌, length, set, get_or, Bool, true, false, not, cond, Option, Some, None, Result, Ok, Err, OnOk, OnErr, refl, sym, ap, subst, unwrap_or, arith, nat_eq, position, nat_lt}
 use Rattle.std.specs.List.{position_or_len}
 use Rattle.std.specs.Cmp.Lexicographic.{pointwise, bytes_decides}
-use Rattle.std.proofs.lemmas.Bool.{false≢true}
+use Rattle.std.proofs.lemmas.Bool.{false_from_ne_true, false≢true}
 use Rattle.std.proofs.lemmas.List.Sums.{prefix_len-le-length}
 use Rattle.std.proofs.lemmas.Bool.Decides.{nat_tests}
 use Rattle.disk_model.specs.Disk.{Areas}
@@ -10,16 +10,13 @@ use Rattle.disk_model.specs.declared.memory.MemDisk.{MemDisk}
 use Rattle.rc_io.specs.declared.mem_host.Folder.{Folder}
 use Rattle.rc_io.specs.Hosts.{IsFolders}
 use Rattle.rc_io.specs.Folders.{disk_in, IsAt, Opens}
+use Rattle.rc_io.proofs.RawLines.{some_place, none_place}
 
 same_name : (xs ys : List ℕ) → xs ≡ ys → pointwise nat_eq xs ys ≡ true
 same_name xs ys e = (bytes_decides xs ys).1 e
 
-not_true : (b : Bool) → (b ≡ true → ⊥) → b ≡ false
-not_true true h = absurd (h refl)
-not_true false h = refl
-
 other_name : (xs ys : List ℕ) → xs ≢ ys → pointwise nat_eq xs ys ≡ false
-other_name xs ys n = not_true (pointwise nat_eq xs ys) (λ t. n ((bytes_decides xs ys).0 t))
+other_name xs ys n = false_from_ne_true (pointwise nat_eq xs ys) (λ t. n ((bytes_decides xs ys).0 t))
 
 at_true : {A : Type 0} (b : Bool) (x y : A) → b ≡ true → cond b x y ≡ x
 at_true true x y h = refl
@@ -67,10 +64,6 @@ IsAt-from_place : (folders : List Folder) (name : List ℕ) (at : ℕ) → at �
 IsAt-from_place [] name at e l = absurd (omega arith)
 IsAt-from_place (f ∷ fs) name at e l = IsAt_step (pointwise nat_eq f.name name) f fs name at (position_or_len (named name) fs) refl e l (λ i a b. IsAt-from_place fs name i a b)
 
-some_place : (t : Bool) (at e : ℕ) → Some at ≡ cond t (Some e) None → (at ≡ e) × (t ≡ true)
-some_place true at e h = (cc, refl)
-some_place false at e h = absurd (cc)
-
 pub IsAt-from_position : (folders : List Folder) (name : List ℕ) (at : ℕ) → Some at ≡ position (named name) folders → IsAt folders name at
 IsAt-from_position folders name at h =
     let n : ℕ = position_or_len (named name) folders in
@@ -84,10 +77,6 @@ gone_step false f fs name n e k = k (omega arith)
 none_from_place : (folders : List Folder) (name : List ℕ) → length folders ≡ position_or_len (named name) folders → disk_in folders name ≡ None
 none_from_place [] name e = refl
 none_from_place (f ∷ fs) name e = gone_step (pointwise nat_eq f.name name) f fs name (position_or_len (named name) fs) e (none_from_place fs name)
-
-none_place : (t : Bool) (e : ℕ) → None ≡ cond t (Some e) None → t ≡ false
-none_place true e h = absurd (cc)
-none_place false e h = refl
 
 pub none_from_position : (folders : List Folder) (name : List ℕ) → None ≡ position (named name) folders → disk_in folders name ≡ None
 none_from_position folders name h =

@@ -54,11 +54,11 @@ before_end-drop zero xs l = omega arith
 before_end-drop (suc n) [] l = absurd (omega arith)
 before_end-drop (suc n) (b ∷ bs) l = drop_step (b == 10) n (before_end bs) (before_end (drop n bs)) (before_end-drop n bs) l
 
-some_place : (t : Bool) (place e : ℕ) → Some place ≡ cond t (Some e) None → (place ≡ e) × (t ≡ true)
+pub some_place : (t : Bool) (place e : ℕ) → Some place ≡ cond t (Some e) None → (place ≡ e) × (t ≡ true)
 some_place true place e h = (cc, refl)
 some_place false place e h = absurd (cc)
 
-none_place : (t : Bool) (e : ℕ) → None ≡ cond t (Some e) None → t ≡ false
+pub none_place : (t : Bool) (e : ℕ) → None ≡ cond t (Some e) None → t ≡ false
 none_place true e h = absurd (cc)
 none_place false e h = refl
 

@@ -11,7 +11,7 @@ use Rattle.rc_base.specs.declared.ids.Epoch.{Epoch}
 use Rattle.rc_base.specs.declared.ids.Lsn.{Lsn}
 use Rattle.rc_base.specs.declared.ids.TxnId.{TxnId}
 use Rattle.rc_base.specs.Ids.{epoch_lt, no_epoch}
-use Rattle.replica.proofs.EpochOrder.{epoch_le_not, epoch_lt_le}
+use Rattle.rc_base.proofs.EpochOrder.{epoch_le_not, epoch_lt_le}
 use Rattle.coll_model.specs.declared.op.Op.{Op}
 use Rattle.coll_model.specs.Effect.{State, folded}
 use Rattle.events.specs.declared.call.Call.{Call}

@@ -1,5 +1,4 @@
 pub mod Calls
-pub mod EpochOrder
 pub mod Lengthened
 pub mod OneMore
 pub mod OneRecord

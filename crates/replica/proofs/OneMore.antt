@@ -4,8 +4,7 @@ use Rattle.std.specs.Option.{option_map}
 use Rattle.std.proofs.lemmas.List.{append-nil, length-append}
 use Rattle.std.proofs.lemmas.Bool.{false≢true}
 use Rattle.std.proofs.lemmas.Option.{none-some}
-use Rattle.log_store.proofs.Rows.{last_from-push}
-use Rattle.log_store.proofs.Logs.{known_in-push, commits_in-push}
+use Rattle.log_store.proofs.Logs.{commits_in-push}
 use Rattle.rc_base.specs.declared.ids.Epoch.{Epoch}
 use Rattle.rc_base.specs.declared.ids.Lsn.{Lsn}
 use Rattle.rc_base.specs.declared.ids.TxnId.{TxnId}
@@ -19,7 +18,7 @@ use Rattle.txn_table.specs.Commits.{Logged, known, commits_behind, commit_in, on
 use Rattle.txn_table.specs.Tables.{followed, with_records}
 use Rattle.txn_table.proofs.Records.{begin_changes_none}
 use Rattle.log_store.specs.Epochs.{later}
-use Rattle.log_store.specs.Log.{Items, last_epoch, numbered, known_in, commits_in}
+use Rattle.log_store.specs.Log.{Items, numbered, known_in, commits_in}
 use Rattle.replica.specs.Open.{stable_told, stable_in}
 
 -- the position behind a log
@@ -27,15 +26,6 @@ abbrev pub next : Items → Lsn
 next log = record { 0 = length log + 1 }
 
 -- ---- positions
-
-pub known_push : (log : Items) (epoch : Epoch) (body : Record) → known_in (log ++ (epoch, body) ∷ []) ≡ with_records (known_in log) ((next log, body) ∷ [])
-known_push log epoch body = known_in-push log (epoch, body)
-
-pub commits_in_push : (log : Items) (epoch : Epoch) (body : Record) → commits_in (log ++ (epoch, body) ∷ []) ≡ commits_in log ++ one_or_none (commit_in (known_in log) body)
-commits_in_push log epoch body = commits_in-push log (epoch, body)
-
-pub last_push : (log : Items) (epoch : Epoch) (body : Record) → last_epoch (log ++ (epoch, body) ∷ []) ≡ epoch
-last_push log epoch body = last_from-push _ log (epoch, body)
 
 pub stable_push : (log : Items) (epoch : Epoch) (body : Record) (n : ℕ) → stable_in log ≤ n → stable_told body ≤ n → stable_in (log ++ (epoch, body) ∷ []) ≤ n
 stable_push [] epoch body n low told = omega arith
@@ -52,7 +42,7 @@ commits_more xs (y ∷ ys) =
     let rest = commits_more (xs ++ y ∷ []) ys in (
       one ++ rest.0,
       sym (append_assoc (commits_in xs) one rest.0)
-          ∙ ap (λ (cs : List Committed). cs ++ rest.0) (sym (commits_in_push xs y.0 y.1))
+          ∙ ap (λ (cs : List Committed). cs ++ rest.0) (sym (commits_in-push xs (y.0, y.1)))
           ∙ rest.1
           ∙ ap commits_in (append_assoc xs (y ∷ []) ys),
     )

@@ -12,7 +12,7 @@ use Rattle.rc_base.specs.declared.ids.Epoch.{Epoch}
 use Rattle.rc_base.specs.declared.ids.Lsn.{Lsn}
 use Rattle.rc_base.specs.declared.ids.TxnId.{TxnId}
 use Rattle.rc_base.specs.Ids.{epoch_lt, epoch_le, is_epoch, is_txn}
-use Rattle.replica.proofs.EpochOrder.{epoch_le_same, epoch_le_lt, epoch_le_not, epoch_lt_le}
+use Rattle.rc_base.proofs.EpochOrder.{epoch_le_same, epoch_le_lt, epoch_le_not, epoch_lt_le}
 use Rattle.rc_base.proofs.SameIds.{is_epoch_same, is_txn-true, is_txn_same}
 use Rattle.coll_model.specs.declared.op.Op.{Op}
 use Rattle.coll_model.specs.Effect.{State, effect, folded}
@@ -35,7 +35,9 @@ use Rattle.replica.specs.declared.role.Role.{Role}
 use Rattle.replica.specs.declared.role.Role.TheVariants.{Other, Primary}
 use Rattle.replica.specs.Open.{Open, stable_told, commits_to, state_of, IsKnownAs, IsPrimary, HasRole, AgreesWith}
 use Rattle.replica.specs.Step.{is_active, behind, lengthened, started}
-use Rattle.replica.proofs.OneMore.{next, known_push, commits_in_push, last_push, stable_push, known_is, with_map, with_begin, known_before, known_or_new, fresh, others_stay}
+use Rattle.log_store.proofs.Rows.{last_from-push}
+use Rattle.log_store.proofs.Logs.{known_in-push, commits_in-push}
+use Rattle.replica.proofs.OneMore.{next, stable_push, known_is, with_map, with_begin, known_before, known_or_new, fresh, others_stay}
 use Rattle.lock_laws.proofs.ProtectedStates.{IsOrdered-folded}
 use Rattle.txn_front.proofs.Fronts.{IsOver-nothing}
 use Rattle.replica.proofs.Puts.{Puts, going_is}
@@ -139,10 +141,10 @@ grow r v body cs shown contents front a on g shown_is contents_is stays =
     let log : Items = v.records ++ (r.epoch, body) ∷ [] in
     let all : commits_to r.stable.0 v.records ≡ commits_in v.records = whole r.stable.0 v.records (omega (arith, a.last, ap (λ (l : Lsn). l.0) primary.1.stable)) in
     let size : length log ≡ r.last.0 + 1 = length-append v.records ((r.epoch, body) ∷ []) ∙ ap (λ (n : ℕ). n + 1) a.last in
-    let commits : commits_in log ≡ commits_in v.records ++ cs = commits_in_push v.records r.epoch body ∙ ap (λ (ds : List Committed). commits_in v.records ++ ds) g.commits in
+    let commits : commits_in log ≡ commits_in v.records ++ cs = commits_in-push v.records (r.epoch, body) ∙ ap (λ (ds : List Committed). commits_in v.records ++ ds) g.commits in
     let here : commits_to (r.last.0 + 1) log ≡ commits_in v.records ++ cs = whole (r.last.0 + 1) log (omega (arith, size)) ∙ commits in
     let all_known : (txn : TxnId) (k : Known) → with_txn txn (known_in log) ≡ Some k → ((txn.epoch ≡ r.epoch) × (txn.n ≤ r.front.begins)) ⊎ ((before : Known) × (with_txn txn (known_in v.records) ≡ Some before))
-    = λ txn k h. g.known txn k (ap (with_txn txn) (sym (known_push v.records r.epoch body)) ∙ h) in
+    = λ txn k h. g.known txn k (ap (with_txn txn) (sym (known_in-push v.records (r.epoch, body))) ∙ h) in
     record {
       may = (
         ap (λ (n : ℕ). n + 1) (sym a.last),
@@ -155,7 +157,7 @@ grow r v body cs shown contents front a on g shown_is contents_is stays =
       agrees = record {
         identity = a.identity;
         fence = ap (λ (e : Epoch). later e r.epoch) a.fence;
-        epoch = last_push v.records r.epoch body;
+        epoch = last_from-push _ v.records (r.epoch, body);
         last = size;
         stable_told = stable_push v.records r.epoch body (r.last.0 + 1) (omega (arith, a.stable_told, a.stable_there)) g.told;
         stable_there = omega arith;
@@ -234,7 +236,7 @@ begin_grows r v t going front a on is zero puts over =
     let log : Items = v.records ++ (r.epoch, Begin t) ∷ [] in
     let at : next v.records ≡ behind r.last 1 = ap (λ (n : ℕ). record { 0 = n + 1 }) a.last in
     let each : (u : TxnId) → with_txn u (known_in log) ≡ cond (is_txn t u) (Some (fresh (next v.records) t)) (with_txn u ks)
-    = λ u. ap (with_txn u) (known_push v.records r.epoch (Begin t)) ∙ with_begin (next v.records) t u ks none.0 in
+    = λ u. ap (with_txn u) (known_in-push v.records (r.epoch, Begin t)) ∙ with_begin (next v.records) t u ks none.0 in
     let known : with_txn t (known_in log) ≡ Some (fresh (next v.records) t) =
     each t ∙ ap (λ (b : Bool). cond b (Some (fresh (next v.records) t)) (with_txn t ks)) (is_txn_same t) in
     let others : OthersStay t v.records log = λ u away. each u ∙ ap (λ (b : Bool). cond b (Some (fresh (next v.records) t)) (with_txn u ks)) away in
@@ -284,7 +286,7 @@ no_fault t going log b =
 no_begin : (log : Items) (epoch : Epoch) (body : Record) (t : TxnId) → ((ks : List Known) → with_records ks ((next log, body) ∷ []) ≡ map (followed ((next log, body) ∷ [])) ks)
     → ((k : Known) → is_txn t k.txn ≡ false → followed ((next log, body) ∷ []) k ≡ k) → OthersStay t log (log ++ (epoch, body) ∷ [])
 no_begin log epoch body t maps stay u away =
-    ap (with_txn u) (known_push log epoch body ∙ maps (known_in log)) ∙ others_stay ((next log, body) ∷ []) t u (known_in log) stay away
+    ap (with_txn u) (known_in-push log (epoch, body) ∙ maps (known_in log)) ∙ others_stay ((next log, body) ∷ []) t u (known_in log) stay away
 
 -- an operation behind its last record
 abbrev pub operated_at : Lsn → Op → Going → Going
@@ -302,7 +304,7 @@ operation_grows r v t going op lsn front a on is some here puts over =
     let at : place ≡ lsn = ap (λ (n : ℕ). record { 0 = n + 1 }) a.last ∙ here in
     let k : Known = record { txn = b.known.txn; begin = b.known.begin; ops = b.known.ops ++ (place, op) ∷ []; ending = b.known.ending } in
     let known : with_txn t (known_in log) ≡ Some k =
-    ap (with_txn t) (known_push v.records r.epoch body) ∙ with_map ((place, body) ∷ []) t ks ∙ ap (option_map (followed ((place, body) ∷ []))) b.is
+    ap (with_txn t) (known_in-push v.records (r.epoch, body)) ∙ with_map ((place, body) ∷ []) t ks ∙ ap (option_map (followed ((place, body) ∷ []))) b.is
     ∙ ap (λ (x : Known). Some x) (operation_of_own place going.last t op b.known (own t going v.records b)) in
     let last : last_of k ≡ lsn =
     ap (λ (e : Option Ending). last_from e (last_position b.known.begin (b.known.ops ++ (place, op) ∷ []))) (none_if_open b.known.ending b.pending) ∙ last_position_push b.known.begin b.known.ops place op ∙ at in
@@ -369,7 +371,7 @@ barrier_grows r v a on =
     let ks : List Known = known_in v.records in
     let body : Record = Barrier r.stable in
     let log : Items = v.records ++ (r.epoch, body) ∷ [] in
-    let same : known_in log ≡ ks = known_push v.records r.epoch body ∙ barrier_changes_none (next v.records) r.stable ks in
+    let same : known_in log ≡ ks = known_in-push v.records (r.epoch, body) ∙ barrier_changes_none (next v.records) r.stable ks in
     grow r v body [] r.shown r.contents r.front a on
     (record {
       follows = is_epoch_same r.epoch;
@@ -403,10 +405,10 @@ epoch_starts r v epoch a up =
     let body : Record = EpochStart epoch in
     let log : Items = v.records ++ (epoch, body) ∷ [] in
     let size : length log ≡ r.last.0 + 1 = length-append v.records ((epoch, body) ∷ []) ∙ ap (λ (n : ℕ). n + 1) a.last in
-    let commits : commits_in log ≡ commits_in v.records = commits_in_push v.records epoch body ∙ append-nil (commits_in v.records) in
+    let commits : commits_in log ≡ commits_in v.records = commits_in-push v.records (epoch, body) ∙ append-nil (commits_in v.records) in
     let here : commits_to (r.last.0 + 1) log ≡ commits_to r.stable.0 v.records ++ r.ahead = whole (r.last.0 + 1) log (omega (arith, size)) ∙ commits ∙ a.commits in
     let old : (txn : TxnId) (k : Known) → with_txn txn (known_in log) ≡ Some k → epoch_le txn.epoch r.epoch ≡ true
-    = λ txn k h. let before = known_before ((next v.records, body) ∷ []) txn (known_in v.records) k (ap (with_txn txn) (sym (known_push v.records epoch body)) ∙ h) in a.epochs txn before.0 before.1 in
+    = λ txn k h. let before = known_before ((next v.records, body) ∷ []) txn (known_in v.records) k (ap (with_txn txn) (sym (known_in-push v.records (epoch, body))) ∙ h) in a.epochs txn before.0 before.1 in
     record {
       may = (
         ap (λ (n : ℕ). n + 1) (sym a.last),
@@ -419,7 +421,7 @@ epoch_starts r v epoch a up =
       agrees = record {
         identity = a.identity;
         fence = ap (λ (e : Epoch). later e epoch) a.fence;
-        epoch = last_push v.records epoch body;
+        epoch = last_from-push _ v.records (epoch, body);
         last = size;
         stable_told = stable_push v.records epoch body (r.last.0 + 1) (omega (arith, a.stable_told, a.stable_there)) (omega arith);
         stable_there = omega arith;

@@ -28,8 +28,10 @@ use Rattle.txn_front.proofs.Fronts.{IsOver-nothing}
 use Rattle.replica.specs.declared.role.Role.TheVariants.{Other}
 use Rattle.replica.specs.Open.{Open, stable_told, stable_in, commits_to, state_of, AgreesWith}
 use Rattle.replica.specs.Reading.{IsRead, with_commit}
-use Rattle.replica.proofs.OneMore.{next, known_push, commits_in_push, last_push, commits_few, known_before, known_or_new}
-use Rattle.replica.proofs.EpochOrder.{epoch_le_same, epoch_le_trans, epoch_lt_le}
+use Rattle.log_store.proofs.Rows.{last_from-push}
+use Rattle.log_store.proofs.Logs.{known_in-push, commits_in-push}
+use Rattle.replica.proofs.OneMore.{next, commits_few, known_before, known_or_new}
+use Rattle.rc_base.proofs.EpochOrder.{epoch_le_same, epoch_le_trans, epoch_lt_le}
 use Rattle.replica.proofs.OneRecord.{whole, state_more}
 
 pub last_item : (e : Epoch) (log : Items) (d : Epoch × Record) (i : ℕ) → i + 1 ≡ length log → last_from e log ≡ (get_or log i d).0
@@ -65,14 +67,14 @@ read_above shown log epoch body r lt None is =
     record {
       count = r.count ∙ ap length (sym same);
       contents = r.contents ∙ ap state_of (sym same);
-      commits = commits_in_push log epoch body ∙ ap (λ (o : Option Committed). commits_in log ++ one_or_none o) is ∙ append-nil (commits_in log) ∙ r.commits ∙ ap (λ (cs : List Committed). cs ++ shown.ahead) (sym same);
+      commits = commits_in-push log (epoch, body) ∙ ap (λ (o : Option Committed). commits_in log ++ one_or_none o) is ∙ append-nil (commits_in log) ∙ r.commits ∙ ap (λ (cs : List Committed). cs ++ shown.ahead) (sym same);
     }
 read_above shown log epoch body r lt (Some c) is =
     let same = same_front shown.stable.0 log (epoch, body) lt in
     let further : IsRead (record shown { ahead = shown.ahead ++ c ∷ [] }) (log ++ (epoch, body) ∷ []) = record {
       count = r.count ∙ ap length (sym same);
       contents = r.contents ∙ ap state_of (sym same);
-      commits = commits_in_push log epoch body ∙ ap (λ (o : Option Committed). commits_in log ++ one_or_none o) is ∙ ap (λ (cs : List Committed). cs ++ c ∷ []) r.commits
+      commits = commits_in-push log (epoch, body) ∙ ap (λ (o : Option Committed). commits_in log ++ one_or_none o) is ∙ ap (λ (cs : List Committed). cs ++ c ∷ []) r.commits
           ∙ append_assoc (commits_to shown.stable.0 log) shown.ahead (c ∷ []) ∙ ap (λ (cs : List Committed). cs ++ (shown.ahead ++ c ∷ [])) (sym same);
     } in
     subst (λ (b : Bool). IsRead (cond b (record shown { ahead = shown.ahead ++ c ∷ [] }) (record shown { count = shown.count + 1; contents = folded shown.contents c.ops })) (log ++ (epoch, body) ∷ [])) (sym (lt-ltb shown.stable.0 (length log + 1) lt)) further
@@ -82,7 +84,7 @@ read_below : (shown : Shown) (log : Items) (epoch : Epoch) (body : Record) → I
 read_below shown log epoch body r le o is =
     let all : commits_to shown.stable.0 log ≡ commits_in log = whole shown.stable.0 log (omega arith) in
     let none : shown.ahead ≡ [] = append_cancel_left (commits_in log) shown.ahead [] (ap (λ (cs : List Committed). cs ++ shown.ahead) (sym all) ∙ sym r.commits ∙ sym (append-nil (commits_in log))) in
-    let more : commits_in (log ++ (epoch, body) ∷ []) ≡ commits_in log ++ one_or_none o = commits_in_push log epoch body ∙ ap (λ (o : Option Committed). commits_in log ++ one_or_none o) is in
+    let more : commits_in (log ++ (epoch, body) ∷ []) ≡ commits_in log ++ one_or_none o = commits_in-push log (epoch, body) ∙ ap (λ (o : Option Committed). commits_in log ++ one_or_none o) is in
     let here : commits_to shown.stable.0 (log ++ (epoch, body) ∷ []) ≡ commits_in log ++ one_or_none o = whole shown.stable.0 (log ++ (epoch, body) ∷ []) (omega (arith, length-append log ((epoch, body) ∷ []))) ∙ more in
     by o here more (r.count ∙ ap length all) (r.contents ∙ ap state_of all) none
   where
@@ -123,7 +125,7 @@ pub known_more : (log : Items) (i : ℕ) (d : Epoch × Record) (lsn : Lsn) (ks :
 known_more log i d lsn ks lt at is =
     let x : Epoch × Record = get_or log i d in
     let place : lsn ≡ next (take i log) = ap (λ (n : ℕ). let l : Lsn = record { 0 = n } in l) (let e : lsn.0 ≡ length (take i log) + 1 = omega (arith, at, size_at log i lt) in e) in
-    ap₂ (λ (ys : List Known) (l : Lsn). with_records ys ((l, x.1) ∷ [])) is place ∙ sym (known_push (take i log) x.0 x.1) ∙ ap known_in (sym (take_more log i d lt))
+    ap₂ (λ (ys : List Known) (l : Lsn). with_records ys ((l, x.1) ∷ [])) is place ∙ sym (known_in-push (take i log) (x.0, x.1)) ∙ ap known_in (sym (take_more log i d lt))
 
 -- with_commit leaves the stable position
 pub stable_stays : (lsn : ℕ) (o : Option Committed) (shown : Shown) → (with_commit lsn o shown).stable ≡ shown.stable
@@ -162,15 +164,15 @@ no_fault (Some k) h = absurd (none-some (nowhere, last_of k) (sym h))
 -- a record that isn't a Begin
 others_push : (log : Items) (epoch : Epoch) (body : Record) → ((ks : List Known) → with_records ks ((next log, body) ∷ []) ≡ map (followed ((next log, body) ∷ [])) ks) → epoch_le (last_epoch log) epoch ≡ true → EpochsTo log → EpochsTo (log ++ (epoch, body) ∷ [])
 others_push log epoch body maps up e txn known h =
-    let before = known_before ((next log, body) ∷ []) txn (known_in log) known (ap (with_txn txn) (sym (maps (known_in log)) ∙ sym (known_push log epoch body)) ∙ h) in
-    subst (λ (l : Epoch). epoch_le txn.epoch l ≡ true) (sym (last_push log epoch body)) (epoch_le_trans txn.epoch (last_epoch log) epoch (e txn before.0 before.1) up)
+    let before = known_before ((next log, body) ∷ []) txn (known_in log) known (ap (with_txn txn) (sym (maps (known_in log)) ∙ sym (known_in-push log (epoch, body))) ∙ h) in
+    subst (λ (l : Epoch). epoch_le txn.epoch l ≡ true) (sym (last_from-push _ log (epoch, body))) (epoch_le_trans txn.epoch (last_epoch log) epoch (e txn before.0 before.1) up)
 
 begin_push : (log : Items) (epoch : Epoch) (new : TxnId) → MayStandBehind log epoch (Begin new) → EpochsTo log → EpochsTo (log ++ (epoch, Begin new) ∷ [])
 begin_push log epoch new h e txn known k =
     let none : with_txn new (known_in log) ≡ None = no_fault (with_txn new (known_in log)) h.linked in
     let same : epoch ≡ last_epoch log = is_epoch-true epoch (last_epoch log) h.follows in
-    subst (λ (l : Epoch). epoch_le txn.epoch l ≡ true) (sym (last_push log epoch (Begin new)))
-    (elim (known_or_new (next log) new txn (known_in log) known none (ap (with_txn txn) (sym (known_push log epoch (Begin new))) ∙ k)) [
+    subst (λ (l : Epoch). epoch_le txn.epoch l ≡ true) (sym (last_from-push _ log (epoch, Begin new)))
+    (elim (known_or_new (next log) new txn (known_in log) known none (ap (with_txn txn) (sym (known_in-push log (epoch, Begin new))) ∙ k)) [
       | inl own ↦ epoch_le_same txn.epoch epoch (ap (λ (t : TxnId). t.epoch) (sym (is_txn-true new txn own)) ∙ is_epoch-true new.epoch epoch h.stands)
       | inr old ↦ subst (λ (l : Epoch). epoch_le txn.epoch l ≡ true) (sym same) (e txn old.0 old.1)
     ])

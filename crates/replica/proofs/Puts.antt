@@ -21,6 +21,7 @@ use Rattle.rc_base.specs.Ids.{is_epoch}
 use Rattle.rc_base.proofs.SameIds.{is_epoch-true, is_epoch_same}
 use Rattle.key_locks.specs.Grants.{Grant, released}
 use Rattle.txn_front.specs.Front.{Fronted, Going, AreAlike, txn_at, numbered, going_of, with_going, logged, ended}
+use Rattle.txn_front.proofs.Entries.{equal_same}
 
 -- ---- entries by number
 
@@ -33,9 +34,6 @@ at_other n m away = by (n == m) refl
     by : (b : Bool) → (n == m) ≡ b → is_eq (nat_cmp n m) ≡ false
     by true is = absurd (away (grind (arith, nat_tests)))
     by false is = grind (arith, nat_tests)
-
-equal_is : (n m : ℕ) → nat_cmp n m ≡ Equal → n ≡ m
-equal_is n m h = grind (arith, nat_tests)
 
 written_own : {X : Type 0} (n : ℕ) (x : X) (es : List (ℕ × X)) → lookup (is_at (nat_cmp n)) (insert_entry nat_cmp es n x) ≡ Some x
 written_own n x [] = rw (at_same n) refl
@@ -53,7 +51,7 @@ written_other {X} m n x (e ∷ es) away = by (written_other m n x es away) (nat_
     by : lookup (is_at (nat_cmp m)) (insert_entry nat_cmp es n x) ≡ lookup (is_at (nat_cmp m)) es → (o : Ordering) → nat_cmp n e.0 ≡ o → lookup (is_at (nat_cmp m)) (insert_entry nat_cmp (e ∷ es) n x) ≡ lookup (is_at (nat_cmp m)) (e ∷ es)
     by rest Less at = rw (at, at_other m n away) refl
     by rest Equal at =
-        let no : is_eq (nat_cmp m e.0) ≡ false = at_other m e.0 (λ same. away (same ∙ sym (equal_is n e.0 at))) in
+        let no : is_eq (nat_cmp m e.0) ≡ false = at_other m e.0 (λ same. away (same ∙ sym (equal_same n e.0 at))) in
         rw (at, no) refl
     by rest Greater at = rw at (ap (λ (o : Option X). cond (is_eq (nat_cmp m e.0)) (Some e.1) o) rest)
 

@@ -13,6 +13,7 @@ use Rattle.std.proofs.lemmas.Option.{none-some}
 use Rattle.std.proofs.lemmas.Map.{lookup-none, lookup-remove_entry}
 use Rattle.std.proofs.lemmas.Map.Keys.{IsDistinct-from_sorted, sorted_head, sorted_tail}
 use Rattle.std.proofs.lemmas.Map.Entries.{none_below_head}
+use Rattle.order_machine.proofs.Lists.{AllByRecursion-weaker}
 
 abbrev pub AreRising : {X : Type 0} → List (ℕ × X) → Type 0
 AreRising entries = IsStrictlySortedBy nat_cmp (keys_of entries)
@@ -39,7 +40,7 @@ entry_there n w v es sorted there = sym (insert_entry-there n w v es sorted (sym
 at_itself : (k : ℕ) → is_at (nat_cmp k) k ≡ true
 at_itself k = ap is_eq (tied_itself nat_cmp_total k)
 
-equal_same : (a b : ℕ) → nat_cmp a b ≡ Equal → a ≡ b
+pub equal_same : (a b : ℕ) → nat_cmp a b ≡ Equal → a ≡ b
 equal_same a b e = ranked a b Equal (sym e)
 
 at_same : (a b : ℕ) → is_at (nat_cmp a) b ≡ true → a ≡ b
@@ -88,10 +89,6 @@ module _ {X : Type 0} where
 
 -- ---- in order
 
-AllByRecursion-same : {K : Type 0} (P Q : K → Type 0) (ks : List K) → ((k : K) → P k → Q k) → AllByRecursion P ks → AllByRecursion Q ks
-AllByRecursion-same P Q [] f h = tt
-AllByRecursion-same P Q (k ∷ ks) f h = (f k h.0, AllByRecursion-same P Q ks f h.1)
-
 pub rising-nil : (X : Type 0) → AreRising {X = X} []
 unfolding IsStrictlySortedBy
 rising-nil X = tt
@@ -103,7 +100,7 @@ rising-cons k v es below rising = (below, rising)
 module _ {X : Type 0} where
   rising_below : (k : ℕ) (e : ℕ × X) (es : List (ℕ × X)) → nat_cmp k e.0 ≡ Less → AreRising (e ∷ es) → AllByRecursion (λ y. nat_cmp k y ≡ Less) (keys_of (e ∷ es))
   rising_below k e es p rising =
-      (p, AllByRecursion-same (λ y. nat_cmp e.0 y ≡ Less) (λ y. nat_cmp k y ≡ Less) (keys_of es) (λ y less. nat_cmp_total.trans k e.0 y p less) (sorted_head nat_cmp e.0 (keys_of es) rising))
+      (p, AllByRecursion-weaker (λ y. nat_cmp e.0 y ≡ Less) (λ y. nat_cmp k y ≡ Less) (keys_of es) (λ y less. nat_cmp_total.trans k e.0 y p less) (sorted_head nat_cmp e.0 (keys_of es) rising))
 
   below_inserted : (x k : ℕ) (v : X) (es : List (ℕ × X)) → nat_cmp x k ≡ Less → AllByRecursion (λ y. nat_cmp x y ≡ Less) (keys_of es) → AllByRecursion (λ y. nat_cmp x y ≡ Less) (keys_of (insert_entry nat_cmp es k v))
   below_inserted x k v [] p h = (p, tt)

@@ -1,12 +1,12 @@
 -- What the calls of a front change: who goes on then, that it stands over the state, and that nothing of it shows the order
 -- between grants of different names.
-use Rattle.std.proofs.Common.{◌≡◌, ◌∙◌, ◌≢◌, ◌⊎◌, inl, inr, ℕ, ◌+◌, ◌≤◌, Bool, true, false, cond, eqb, List, [], ◌∷◌, ◌++◌, Option, Some, None, refl, sym, ap, subst, arith}
+use Rattle.std.proofs.Common.{◌≡◌, ◌∙◌, ◌≢◌, ◌⊎◌, inl, inr, ℕ, ◌+◌, ◌≤◌, Bool, true, false, cond, List, [], ◌∷◌, ◌++◌, Option, Some, None, refl, sym, ap, subst, arith}
 use Rattle.std.specs.Prelude.{option_map, option_and_then}
 use Rattle.std.specs.Option.{option_map_or}
 use Rattle.std.specs.Ordering.{nat_cmp}
 use Rattle.std.specs.Map.{remove_entry}
 use Rattle.std.specs.BTreeMap.{insert_entry, is_at}
-use Rattle.std.proofs.lemmas.Bool.{false≢true, cond-true, eqb-true, eq-eqb}
+use Rattle.std.proofs.lemmas.Bool.{false≢true, cases_eq, cond-true}
 use Rattle.std.proofs.lemmas.Option.{none-some, same_Some}
 use Rattle.std.proofs.lemmas.List.Elements.{All-push, All-nil}
 use Rattle.rc_base.specs.declared.ids.Epoch.{Epoch}
@@ -36,13 +36,6 @@ use Rattle.txn_front.specs.Index.{noted}
 use Rattle.txn_front.proofs.Entries.{look_at_inserted, look_beside_inserted, look_at_removed, look_beside_removed, rising-nil, rising_inserted, rising_removed}
 
 -- ---- numbers and names of transactions
-
-cases_number : (a b : ℕ) → (a ≡ b) ⊎ (a ≢ b)
-cases_number a b = by (eqb a b) refl
-  where
-    by : (q : Bool) → eqb a b ≡ q → (a ≡ b) ⊎ (a ≢ b)
-    by true e = inl (eqb-true a b e)
-    by false e = inr (λ same. false≢true (sym e ∙ eq-eqb a b same))
 
 named : Epoch → ℕ → TxnId
 named e n = record { epoch = e; n = n }
@@ -324,7 +317,7 @@ IsOver-with f state n going over own = record {
   ordered = over.ordered;
   rising = rising_inserted n going f.live over.rising;
   exclusive = over.exclusive;
-  each = λ m other at. by m other at (cases_number m n);
+  each = λ m other at. by m other at (cases_eq m n);
 }
   where
     moved : (m : ℕ) (other : Going) → IsOwn f state m other → IsOwn (with_going n going f) state m other
@@ -426,7 +419,7 @@ IsOver-removed f state next t going over e ordered stays =
       ordered = ordered;
       rising = rising_removed t.n f.live over.rising;
       exclusive = AreExclusive-released f.grants t over.exclusive;
-      each = λ n other at. by n other at (cases_number n t.n);
+      each = λ n other at. by n other at (cases_eq n t.n);
     })
   where
     without : Fronted

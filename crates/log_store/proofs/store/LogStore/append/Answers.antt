@@ -11,7 +11,7 @@ use Rattle.gated_log.specs.Blocks.{IsAtRest, Gains, KeepsOrGains}
 use Rattle.gated_log.specs.Log.{Log, StaysElsewhere}
 use Rattle.barrier_group.specs.Group.{spelled}
 use Rattle.log_store.specs.Store.{Store, IsTaken}
-use Rattle.log_store.proofs.Order.{cases_bool}
+use Rattle.std.proofs.lemmas.Bool.{cases_Bool}
 use Rattle.log_store.proofs.Images.{cases_list, stands, grown, still_taken, slots_follow, slots_within, slots_seen, on_ok, closed_not_ok, closed_is_err, not_err}
 use Rattle.log_store.proofs.store.LogStore.append.Goals as goal
 
@@ -38,7 +38,7 @@ returns-clause-ok g c =
     let same : c.self.inside.log ≡ c.args.self.now.log = ap (λ (s : Store). s.log) c.self.view_is in
     elim (cases_list items) [
       | inl none ↦ on_ok c.flush.result (λ v stand d is. subst (λ (xs : List Physical). durable d ≡ Ok (after v xs)) (sym none) (stand d (subst (λ s. g.D.Disk.images s d) (c.flush.ensures.empty none).2 is)))
-      | inr some ↦ elim (cases_bool c.args.self.now.log.closed) [
+      | inr some ↦ elim (cases_Bool c.args.self.now.log.closed) [
         | inl closed ↦ closed_not_ok _ c.flush.result ((c.flush.ensures.closed_before some).1 (ap (λ (l : Log). l.closed) same ∙ closed))
         | inr is_open ↦ on_ok_weaker c.flush.result
             (λ follows v stand d is. (grown old new area items (c.requires.opened is_open).taken c.flush.ensures.physical (c.requires.goes_on is_open)
@@ -67,7 +67,7 @@ returns-clause-opened g c still_open =
           }
       | inr some ↦
           let done = sym (c.flush.ensures.closed some) ∙ still_open in
-          elim (cases_bool c.args.self.now.log.closed) [
+          elim (cases_Bool c.args.self.now.log.closed) [
             | inl closed ↦ absurd (false≢true (sym done ∙ closed_is_err c.flush.result ((c.flush.ensures.closed_before some).1 (ap (λ (l : Log). l.closed) same ∙ closed))))
             | inr is_open ↦
                 let open_on = c.requires.opened is_open in
@@ -91,7 +91,7 @@ returns-clause-slots g c =
     let same : c.self.inside.log ≡ c.args.self.now.log = ap (λ (s : Store). s.log) c.self.view_is in
     elim (cases_list items) [
       | inl none ↦ slots_within old new (λ d is. subst (λ s. g.D.Disk.images s d) (c.flush.ensures.empty none).2 is)
-      | inr some ↦ elim (cases_bool c.args.self.now.log.closed) [
+      | inr some ↦ elim (cases_Bool c.args.self.now.log.closed) [
         | inl closed ↦ slots_within old new (λ d is. subst (λ s. g.D.Disk.images s d) (c.flush.ensures.untouched (ap (λ (l : Log). l.closed) same ∙ closed)) is)
         | inr is_open ↦ slots_follow old new area (c.requires.opened is_open).low
             (subst (λ (l : Log). Follows (Changes l.area (KeepsOrGains (spelled items))) old new) same (c.flush.ensures.stop some))
@@ -107,7 +107,7 @@ returns-clause-slots_seen g c =
     let seen_new = g.D.Disk.seen c.flush.new.disk in
     elim (cases_list items) [
       | inl none ↦ on_ok c.flush.result (λ b high. ap (λ s. option_map (λ (a : Areas). a b) (g.D.Disk.seen s)) (c.flush.ensures.empty none).2)
-      | inr some ↦ elim (cases_bool c.args.self.now.log.closed) [
+      | inr some ↦ elim (cases_Bool c.args.self.now.log.closed) [
         | inl closed ↦ closed_not_ok _ c.flush.result ((c.flush.ensures.closed_before some).1 (ap (λ (l : Log). l.closed) same ∙ closed))
         | inr is_open ↦ on_ok_weaker c.flush.result
             (slots_seen seen_old seen_new area (c.requires.opened is_open).low)
