@@ -3,13 +3,16 @@ use Rattle.std.proofs.Common.{ℕ, Bool, true, false, ◌&&◌, List, length, na
 use Rattle.std.specs.List.{list_all}
 use Rattle.std.proofs.lemmas.Bool.{false≢true}
 use Rattle.log_records.specs.Spelling.{is_key, is_value}
+use Rattle.rc_base.specs.Names.{is_name}
 use Rattle.script_text.specs.Letters.{is_key_letter, is_key_word, is_value_word}
 use Rattle.events.specs.declared.event.Event.{Event}
 use Rattle.events.specs.declared.event.Event.TheVariants.{Boot, Client, Arm, Crash, Reboot, Inspect, Survey, Appoint, Activate}
 use Rattle.events.specs.declared.call.Call.{Call}
 use Rattle.events.specs.declared.call.Call.TheVariants as calls
-use Rattle.script_text.specs.Sentence.{IsBuilt, IsBuiltCall}
-use Rattle.replica.specs.Step.{CallFits}
+use Rattle.events.specs.declared.call.KeyCall.{KeyCall}
+use Rattle.events.specs.declared.call.KeyCall.TheVariants.{Get, GetForUpdate, Set, Add, Delete}
+use Rattle.script_text.specs.Sentence.{IsBuilt, IsBuiltCall, GivesValueWord}
+use Rattle.replica.specs.Step.{CallFits, KeyCallFits}
 use Rattle.world.specs.World.{IsHere}
 
 first_true : (a b : Bool) → IsTrue (a && b) → IsTrue a
@@ -27,10 +30,17 @@ key_fits text h = first_true (is_key text) (list_all is_key_letter text) h
 value_fits : (text : List ℕ) → IsTrue (is_value_word text) → IsTrue (is_value text)
 value_fits text h = second_true (nat_le 1 (length text)) (is_value text) (first_true (nat_le 1 (length text) && is_value text) (list_all is_key_letter text) h)
 
+asked_fits : (name key : List ℕ) (asked : KeyCall) → IsTrue (is_name name) → IsTrue (is_key_word key) → GivesValueWord asked → KeyCallFits name key asked
+asked_fits name key Get n k given = tt
+asked_fits name key GetForUpdate n k given = tt
+asked_fits name key (Set value) n k given = (n, key_fits key k, value_fits value given)
+asked_fits name key (Add value) n k given = (n, key_fits key k, value_fits value given)
+asked_fits name key Delete n k given = (n, key_fits key k)
+
 call_fits : (call : Call) → IsBuiltCall call → CallFits call
 call_fits calls.Begin h = tt
-call_fits (calls.Make t name kind) h = h.1
-call_fits (calls.OnKey t name key asked) h = tt
+call_fits (calls.Make t name kind) h = h.2.1
+call_fits (calls.OnKey t name key asked) h = asked_fits name key asked h.2.1 h.2.2.1 h.2.2.2
 call_fits (calls.Commit t) h = tt
 call_fits (calls.Abort t) h = tt
 

@@ -13,7 +13,7 @@ use Rattle.std.proofs.lemmas.Option.{none-some}
 use Rattle.std.proofs.lemmas.Map.{lookup-none, lookup-remove_entry}
 use Rattle.std.proofs.lemmas.Map.Keys.{IsDistinct-from_sorted, sorted_head, sorted_tail}
 use Rattle.std.proofs.lemmas.Map.Entries.{none_below_head}
-use Rattle.order_machine.proofs.Lists.{AllByRecursion-weaker}
+use Rattle.events.proofs.Lists.{AllByRecursion-weaker}
 
 abbrev pub AreRising : {X : Type 0} → List (ℕ × X) → Type 0
 AreRising entries = IsStrictlySortedBy nat_cmp (keys_of entries)

@@ -28,7 +28,7 @@ use Rattle.world.specs.Running.{running, state_of, RunsWith}
 use Rattle.world.specs.Standing.{Course, standing, shut}
 use Rattle.world.specs.Steps.{told_start, log_once}
 use Rattle.world.specs.World.{Resting}
-use Rattle.replica.proofs.EpochOrder.{epoch_lt_none}
+use Rattle.rc_base.proofs.EpochOrder.{epoch_lt_none}
 use Rattle.world.proofs.FaultLines.{fault_behind}
 use Rattle.world.proofs.Quiet.{holds_behind}
 use Rattle.world.proofs.Served.{served_from}

@@ -21,7 +21,7 @@ use Rattle.world.proofs.Answer.{answer_serves}
 use Rattle.world.proofs.Booted.{running_unrefused}
 use Rattle.world.proofs.Changed.{ChangesAt, at_own, at_other, kept_other}
 use Rattle.world.proofs.Quiet.{holds_behind}
-use Rattle.replica.proofs.EpochOrder.{epoch_le_refl}
+use Rattle.rc_base.proofs.EpochOrder.{epoch_le_refl}
 use Rattle.world.proofs.Told.{machine_of}
 use Rattle.events.specs.declared.answer.Answer.TheVariants as answers
 

@@ -193,7 +193,7 @@ named_done call t named going last number r r' before now lines m epoch active l
 primary_done : (last number : ℕ) (r r' : Open) (call : Call) (before now : Areas → Type 0) (lines : List Observation) (m : Machine) (epoch : Epoch) (active : Bool) → last < number → r.role ≡ Primary epoch active → Serving last r before m → IsDone r r' call before now lines → IsServed number r' now call lines m
 primary_done last number r r' Begin before now lines m epoch active later role s d = begin_done last number r r' before now lines m epoch active later role s d
 primary_done last number r r' (Make t name kind) before now lines m epoch active later role s d = let call : Call = Make t name kind in named_done call t refl (in_collection call t tt refl) last number r r' before now lines m epoch active later role s d (going_of r.front t) refl
-primary_done last number r r' (OnKey t name key asked) before now lines m epoch active later role s d = let call : Call = Get t name key in named_done call t refl (in_collection call t tt refl) last number r r' before now lines m epoch active later role s d (going_of r.front t) refl
+primary_done last number r r' (OnKey t name key asked) before now lines m epoch active later role s d = let call : Call = OnKey t name key asked in named_done call t refl (in_collection call t tt refl) last number r r' before now lines m epoch active later role s d (going_of r.front t) refl
 primary_done last number r r' (Commit t) before now lines m epoch active later role s d = named_done (Commit t) t refl (λ l n a b g. commit_done l n a b t g) last number r r' before now lines m epoch active later role s d (going_of r.front t) refl
 primary_done last number r r' (Abort t) before now lines m epoch active later role s d = named_done (Abort t) t refl (λ l n a b g. aborted_done l n a b t g) last number r r' before now lines m epoch active later role s d (going_of r.front t) refl
 

@@ -299,7 +299,7 @@ named_cut call t named going last number r before now lines m later may on s cut
 primary_cut : (last number : ℕ) (r : Open) (call : Call) (before now : Areas → Type 0) (lines : List Observation) (m : Machine) → last < number → MayStep r (steps.Client call) → is_active r.role ≡ true → (s : Serving last r before m) → IsCutOff r (steps.Client call) s.log [] lines now → IsFaulted number now call (lines ++ says.Fault 0 ∷ []) m
 primary_cut last number r Begin before now lines m later may on s cut = absurd (silent_cut r Begin (plain (answers.Txn (next r.front))) s.log lines now (active_reply r Begin on) refl cut)
 primary_cut last number r (Make t name kind) before now lines m later may on s cut = let call : Call = Make t name kind in named_cut call t refl (collection_cut call t tt refl) last number r before now lines m later may on s cut (going_of r.front t) refl
-primary_cut last number r (OnKey t name key asked) before now lines m later may on s cut = let call : Call = Get t name key in named_cut call t refl (collection_cut call t tt refl) last number r before now lines m later may on s cut (going_of r.front t) refl
+primary_cut last number r (OnKey t name key asked) before now lines m later may on s cut = let call : Call = OnKey t name key asked in named_cut call t refl (collection_cut call t tt refl) last number r before now lines m later may on s cut (going_of r.front t) refl
 primary_cut last number r (Commit t) before now lines m later may on s cut = named_cut (Commit t) t refl (commit_cut t) last number r before now lines m later may on s cut (going_of r.front t) refl
 primary_cut last number r (Abort t) before now lines m later may on s cut = named_cut (Abort t) t refl (abort_cut t) last number r before now lines m later may on s cut (going_of r.front t) refl
 

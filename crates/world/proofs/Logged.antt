@@ -12,7 +12,7 @@ use Rattle.replica.specs.Step.{lengthened, answered, called, logged_by, is_activ
 use Rattle.txn_front.specs.Front.{Going, going_of}
 use Rattle.world.specs.Course.{IsCourse, IsFence, IsLogged, is_appointed}
 use Rattle.world.specs.Standing.{Course}
-use Rattle.replica.proofs.EpochOrder.{epoch_le_refl}
+use Rattle.rc_base.proofs.EpochOrder.{epoch_le_refl}
 use Rattle.world.proofs.Plain.{committed_open, lengthened_epoch}
 
 pub fence_later : (course : Course) (f e : Epoch) → IsFence course f → epoch_le e course.latest ≡ true → IsFence course (later f e)

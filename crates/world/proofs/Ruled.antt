@@ -15,8 +15,8 @@ use Rattle.order_machine.specs.Transitions.{is_above_all, noting_active, droppin
 use Rattle.world.specs.Course.{IsNoted, AreNoted}
 use Rattle.world.specs.Kept.{Kept}
 use Rattle.world.specs.World.{IsRuled}
-use Rattle.replica.proofs.EpochOrder.{epoch_lt_not}
 use Rattle.events.specs.declared.answer.Answer.TheVariants as answers
+use Rattle.rc_base.proofs.EpochOrder.{epoch_lt_not}
 
 -- ---- the parts of the rule
 

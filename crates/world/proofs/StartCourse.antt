@@ -13,7 +13,7 @@ use Rattle.order_machine.specs.Machine.{Appointment}
 use Rattle.order_machine.specs.Transitions.{noting_active}
 use Rattle.world.specs.Course.{IsOurs, IsCourse, IsFence, IsLogged, is_appointed}
 use Rattle.world.specs.Standing.{Course}
-use Rattle.replica.proofs.EpochOrder.{epoch_le_refl, epoch_le_lt, epoch_lt_le}
+use Rattle.rc_base.proofs.EpochOrder.{epoch_le_refl, epoch_le_lt, epoch_lt_le}
 use Rattle.world.proofs.StartLines.{appointment_to, appointed_course, active_course}
 
 -- ---- what is below the epoch

@@ -24,7 +24,7 @@ use Rattle.world.specs.Steps.{finished, log_once, log_twice, log_behind, HoldsSo
 use Rattle.world.specs.World.{Serving, Closed, AsReplica, IsOpen, IsSound, StillHolds}
 use Rattle.world.proofs.Appointing.{Appoints, course_of, course_then, course_now, entries_now, below, may_start, all_commits, runs_there, all_lines, appoint_serves, appoint_faults_behind, appoint_faults_first}
 use Rattle.world.proofs.Changed.{runs_alike}
-use Rattle.replica.proofs.EpochOrder.{epoch_le_refl}
+use Rattle.rc_base.proofs.EpochOrder.{epoch_le_refl}
 use Rattle.world.proofs.Past.{past_ended, follow_ended}
 use Rattle.world.proofs.Sound.{BeginsWith, begins_still, sound_whole}
 use Rattle.world.proofs.StartCourse.{course_appointed, course_active, fence_appointed, fence_active, logged_appointed, logged_active, appointed_now}

@@ -3,11 +3,12 @@ use Rattle.std.proofs.Common.{◌≡◌, ◌∙◌, sym, ap, subst, refl, ℕ, �
 use Rattle.std.specs.List.{list_any}
 use Rattle.std.specs.Option.{option_map}
 use Rattle.std.proofs.lemmas.Bool.Decides.{nat_tests}
-use Rattle.std.proofs.lemmas.Option.{none-some, same_Some}
+use Rattle.std.proofs.lemmas.Option.{same_Some}
 use Rattle.rc_base.specs.declared.ids.Epoch.{Epoch}
 use Rattle.rc_base.specs.declared.ids.TxnId.{TxnId}
 use Rattle.config_rule.specs.declared.appointments.Appointed.{Appointed}
 use Rattle.config_rule.specs.Rule.{Known, is_above, are_members, has_quorum, has_answered_last, tells_most, first_broken, broken_appointment, after_appointment, after_active}
+use Rattle.config_rule.proofs.Rising.{first_holds}
 use Rattle.disk_model.specs.Disk.{Areas}
 use Rattle.txn_table.specs.declared.committed.Committed.{Committed}
 use Rattle.log_store.specs.declared.kept.Kept.{Kept as Log}
@@ -91,10 +92,6 @@ faultless_all q order r more =
     ∙ (faultless_orders q cs ((rise ++ says.Done ∷ []) ++ more) ∙ faultless_rise q r.id n (nat_lt r.shown n) more)
 
 -- ---- a lawful appointment
-
-first_holds : (n : ℕ) (b : Bool) (bs : List Bool) → first_broken n (b ∷ bs) ≡ None → (b ≡ true) × (first_broken (n + 1) bs ≡ None)
-first_holds n true bs e = (refl, e)
-first_holds n false bs e = absurd (none-some n (sym e))
 
 six_hold : (a b c d f up : Bool) → first_broken 1 (a ∷ b ∷ c ∷ d ∷ f ∷ up ∷ []) ≡ None → (a ≡ true) × (up ≡ true)
 six_hold a b c d f up e =

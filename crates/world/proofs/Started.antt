@@ -18,7 +18,7 @@ use Rattle.txn_front.specs.Front.{Going, nothing, going_of}
 use Rattle.world.specs.Course.{ArePast, MayFollow}
 use Rattle.world.specs.Running.{running, state_of, RunsWith, IsKept}
 use Rattle.world.specs.Standing.{Course}
-use Rattle.replica.proofs.EpochOrder.{epoch_le_lt, epoch_lt_apart}
+use Rattle.rc_base.proofs.EpochOrder.{epoch_le_lt, epoch_lt_apart}
 use Rattle.world.proofs.StartCourse.{le_below}
 use Rattle.world.proofs.StartLines.{appointed_course, active_course, as_entry, with_more, more_held}
 

@@ -6,7 +6,7 @@ use Rattle.std.proofs.lemmas.Bool.{or_left, or_right}
 use Rattle.rc_base.specs.declared.ids.Epoch.{Epoch}
 use Rattle.rc_base.specs.declared.ids.TxnId.{TxnId}
 use Rattle.rc_base.specs.Ids.{no_epoch, is_epoch, epoch_lt, epoch_le}
-use Rattle.replica.proofs.EpochOrder.{epoch_le_lt, epoch_le_not, epoch_lt_asym, epoch_lt_le}
+use Rattle.rc_base.proofs.EpochOrder.{epoch_le_lt, epoch_le_not, epoch_lt_asym, epoch_lt_le}
 use Rattle.rc_base.proofs.SameIds.{is_epoch_same}
 use Rattle.config_rule.specs.declared.answers.SurveyAnswer.{SurveyAnswer}
 use Rattle.config_rule.specs.Rule.{with_answer}
