@@ -176,10 +176,27 @@ fn holds(alloc: Global, disk: &mut MemDisk, fence: u32, items: &[Item]) -> bool 
     }
 }
 
-// How the disk's log is opened: on a disk with none it begins with this identity.
-fn open(alloc: Global, disk: &mut MemDisk, identity: u128) -> Result<(), RecoverError> {
-    LogStore::recover(alloc, disk, identity)?;
-    Ok(())
+// The number of the area and the place where a log is wrong; none where it is opened.
+fn told(
+    recovered: &Result<(LogStore, Durable), RecoverError>,
+) -> Result<Option<(u32, u64)>, LogError> {
+    match recovered {
+        Ok(_) => Ok(None),
+        Err(RecoverError::Corrupt { area, at }) => Ok(Some((area.number(), *at))),
+        Err(RecoverError::Disk) => Err(LogError::Disk),
+        Err(RecoverError::NoMemory) => Err(LogError::NoMemory),
+    }
+}
+
+// A disk with no log begins one with this identity.
+fn open(alloc: Global, disk: &mut MemDisk, identity: u128) -> Result<Option<(u32, u64)>, LogError> {
+    let recovered = LogStore::recover(alloc, disk, identity);
+    told(&recovered)
+}
+
+fn has_bytes(alloc: Global, disk: &mut MemDisk, bytes: &[u8]) -> Result<bool, LogError> {
+    let read = read_all(alloc, disk, LOG0)?;
+    Ok(read.as_slice() == bytes)
 }
 
 // What is done with a disk, and what comes of it.
@@ -199,51 +216,61 @@ enum Step {
     Bytes(&'static [u8]),
 }
 
-fn take(rt: &impl Abort, alloc: Global, disk: &mut MemDisk, step: &Step) -> Result<(), LogError> {
+// Whether it comes so.
+fn take(alloc: Global, disk: &mut MemDisk, step: &Step) -> Result<bool, LogError> {
     match step {
-        Step::Block(area, items) => write_items(alloc, disk, area_of(*area), items)?,
-        Step::Payload(payload) => write_payload(alloc, disk, payload)?,
-        Step::Opens => assert_eq!(rt; open(alloc, disk, 7), Ok(())),
-        Step::Holds(fence, items) => assert!(rt; holds(alloc, disk, *fence, items)),
-        Step::Wrong(area, at) => {
-            let (area, at) = (area_of(*area), *at);
-            assert_eq!(rt;
-                open(alloc, disk, 99),
-                Err(RecoverError::Corrupt { area, at })
-            );
+        Step::Block(area, items) => {
+            write_items(alloc, disk, area_of(*area), items)?;
+            Ok(true)
         }
-        Step::Bytes(bytes) => {
-            let read = read_all(alloc, disk, LOG0)?;
-            assert_eq!(rt; read.as_slice(), *bytes);
+        Step::Payload(payload) => {
+            write_payload(alloc, disk, payload)?;
+            Ok(true)
         }
+        Step::Opens => Ok(open(alloc, disk, 7)?.is_none()),
+        Step::Holds(fence, items) => Ok(holds(alloc, disk, *fence, items)),
+        Step::Wrong(area, at) => Ok(open(alloc, disk, 99)? == Some((*area, *at))),
+        Step::Bytes(bytes) => has_bytes(alloc, disk, bytes),
     }
-    Ok(())
 }
 
 fn area_of(number: u32) -> Area {
     if number == 0 { LOG0 } else { LOG1 }
 }
 
-// A new disk takes these steps.
-fn play(rt: &impl Abort, alloc: Global, steps: &[Step]) -> Result<(), LogError> {
-    let mut disk = MemDisk::new(alloc);
-    for step in steps {
-        take(rt, alloc, &mut disk, step)?;
+fn take_all(
+    rt: &impl Abort,
+    alloc: Global,
+    disk: &mut MemDisk,
+    steps: &[Step],
+) -> Result<(), LogError> {
+    for i in 0..steps.len() {
+        assert!(rt; take(alloc, disk, &steps[i])?, "step {i}");
     }
     Ok(())
 }
 
+// For each of these a new disk takes its steps.
+fn play_each(rt: &impl Abort, alloc: Global, cases: &[&[Step]]) -> Result<(), LogError> {
+    for steps in cases {
+        let mut disk = MemDisk::new(alloc);
+        take_all(rt, alloc, &mut disk, steps)?;
+    }
+    Ok(())
+}
+
+const NEW_LOG: [Step; 3] = [
+    Step::Opens,
+    Step::Bytes(&[
+        1, 0, 0, 0, 26, 6, 1, 0, 0, 0, 0, 0, 0, 0, 1, 0, 0, 0, 0, 0, 0, 0, 0, 0, 0, 0, 0, 0, 0, 0,
+        7, 0,
+    ]),
+    Step::Holds(0, &[]),
+];
+
 #[test]
 fn a_new_disk_gets_a_head_and_keeps_its_identity(rt: HostRuntime) -> Result<(), Fail> {
-    let steps = [
-        Step::Opens,
-        Step::Bytes(&[
-            1, 0, 0, 0, 26, 6, 1, 0, 0, 0, 0, 0, 0, 0, 1, 0, 0, 0, 0, 0, 0, 0, 0, 0, 0, 0, 0, 0, 0,
-            0, 7, 0,
-        ]),
-        Step::Holds(0, &[]),
-    ];
-    play(&rt, rt.alloc(), &steps)?;
+    play_each(&rt, rt.alloc(), &[&NEW_LOG])?;
     Ok(())
 }
 
@@ -267,19 +294,17 @@ const BLOCKS: [Step; 8] = [
 
 #[test]
 fn blocks_are_read(rt: HostRuntime) -> Result<(), Fail> {
-    play(&rt, rt.alloc(), &BLOCKS)?;
+    play_each(&rt, rt.alloc(), &[&BLOCKS])?;
     Ok(())
 }
 
 // A log of a head and these records, each in a block of its own, and where it is wrong.
 type Case = (&'static [Item], Option<(u32, u64)>);
 
-fn judge(rt: &impl Abort, alloc: Global, case: &Case) -> Result<(), LogError> {
-    let mut disk = MemDisk::new(alloc);
-    write_items(alloc, &mut disk, LOG0, &[Item::Head(1)])?;
-    write_each(alloc, &mut disk, case.0)?;
-    assert_eq!(rt; open(alloc, &mut disk, 99), answer(case.1));
-    Ok(())
+fn is_wrong_at(alloc: Global, disk: &mut MemDisk, (items, wrong): Case) -> Result<bool, LogError> {
+    write_items(alloc, disk, LOG0, &[Item::Head(1)])?;
+    write_each(alloc, disk, items)?;
+    Ok(open(alloc, disk, 99)? == wrong)
 }
 
 fn write_each(alloc: Global, disk: &mut MemDisk, items: &[Item]) -> Result<(), LogError> {
@@ -289,19 +314,10 @@ fn write_each(alloc: Global, disk: &mut MemDisk, items: &[Item]) -> Result<(), L
     Ok(())
 }
 
-fn answer(wrong: Option<(u32, u64)>) -> Result<(), RecoverError> {
-    match wrong {
-        None => Ok(()),
-        Some((area, at)) => Err(RecoverError::Corrupt {
-            area: area_of(area),
-            at,
-        }),
-    }
-}
-
 fn judge_each(rt: &impl Abort, alloc: Global, cases: &[Case]) -> Result<(), LogError> {
-    for case in cases {
-        judge(rt, alloc, case)?;
+    for i in 0..cases.len() {
+        let mut disk = MemDisk::new(alloc);
+        assert!(rt; is_wrong_at(alloc, &mut disk, cases[i])?, "case {i}");
     }
     Ok(())
 }
@@ -432,13 +448,6 @@ fn a_wrong_link_is_found(rt: HostRuntime) -> Result<(), Fail> {
     Ok(())
 }
 
-fn play_each(rt: &impl Abort, alloc: Global, cases: &[&[Step]]) -> Result<(), LogError> {
-    for steps in cases {
-        play(rt, alloc, steps)?;
-    }
-    Ok(())
-}
-
 // The payloads of first blocks: a head, a head and more, heads of generations 2 and 0, no record, and a Fence.
 const FIRST_BLOCKS: [&[Step]; 6] = [
     &[
@@ -530,13 +539,17 @@ fn count_to(alloc: Global, disk: &mut MemDisk, item: &Item) -> (usize, bool) {
     }
 }
 
+// A log of a head and that block.
+fn thousands(alloc: Global) -> Result<(usize, bool), LogError> {
+    let mut disk = MemDisk::new(alloc);
+    write_items(alloc, &mut disk, LOG0, &[Item::Head(1)])?;
+    write_thousands(alloc, &mut disk)?;
+    Ok(count_to(alloc, &mut disk, &Item::Barrier(3999, 1, 3998)))
+}
+
 #[test]
 fn some_thousand_records_are_read(rt: HostRuntime) -> Result<(), Fail> {
-    let mut disk = MemDisk::new(rt.alloc());
-    write_items(rt.alloc(), &mut disk, LOG0, &[Item::Head(1)])?;
-    write_thousands(rt.alloc(), &mut disk)?;
-    let last = Item::Barrier(3999, 1, 3998);
-    assert_eq!(rt; count_to(rt.alloc(), &mut disk, &last), (3999, true));
+    assert_eq!(rt; thousands(rt.alloc())?, (3999, true));
     Ok(())
 }
 
@@ -636,9 +649,9 @@ fn a_stopped_append_leaves_all_or_nothing(rt: HostRuntime) -> Result<(), Fail> {
 fn expect_failing(rt: &impl Abort, alloc: Global, call: u8) {
     let mut disk = MemDisk::new(alloc);
     disk.arm(u64::from(call) + 1);
-    assert_eq!(rt; open(alloc, &mut disk, 7), Err(RecoverError::Disk));
+    assert_eq!(rt; open(alloc, &mut disk, 7), Err(LogError::Disk));
     disk.crash(1);
-    assert_eq!(rt; open(alloc, &mut disk, 7), Ok(()));
+    assert_eq!(rt; open(alloc, &mut disk, 7), Ok(None));
 }
 
 #[test]

@@ -2,7 +2,6 @@ pub mod Calls
 pub mod Folders
 pub mod Hosts
 pub mod Lines
-pub mod Lending
 pub mod Limits
 pub mod Memory
 pub mod Reader

@@ -25,53 +25,45 @@ impl Source for Slow {
     }
 }
 
-// What a stream of std does at a call. `Does` gives these bytes to a reader, and takes them from the front of a writer's
-// piece.
-#[derive(Clone, Copy)]
-enum Turn {
-    Interrupted,
-    Does(&'static [u8]),
-}
-
-// A stream that does these in turn, and then fails, as where a piece has other bytes.
+// A stream of std. At each call it gives or takes so many bytes of its text as the plan says, or is interrupted where
+// the plan has none; past the plan it fails, as where a piece has other bytes.
 #[derive(Drop)]
 struct Stream {
-    turns: &'static [Turn],
+    text: &'static [u8],
+    plan: &'static [Option<usize>],
 }
 
 impl Stream {
-    fn next(&mut self) -> io::Result<&'static [u8]> {
-        match self.turns {
-            [Turn::Does(bytes), rest @ ..] => {
-                self.turns = rest;
-                Ok(bytes)
-            }
-            [Turn::Interrupted, rest @ ..] => {
-                self.turns = rest;
-                Err(io::Error::from(ErrorKind::Interrupted))
-            }
-            [] => Err(io::Error::from(ErrorKind::Other)),
+    fn turn(&mut self) -> io::Result<usize> {
+        let plan = self.plan;
+        if plan.is_empty() {
+            return Err(io::Error::from(ErrorKind::Other));
+        }
+        self.plan = &plan[1..];
+        match plan[0] {
+            Some(count) => Ok(count),
+            None => Err(io::Error::from(ErrorKind::Interrupted)),
         }
     }
 }
 
 impl Read for Stream {
     fn read(&mut self, buf: &mut [u8]) -> io::Result<usize> {
-        let bytes = self.next()?;
-        let count = bytes.len().min(buf.len());
-        buf[..count].copy_from_slice(&bytes[..count]);
+        let count = self.turn()?.min(buf.len()).min(self.text.len());
+        buf[..count].copy_from_slice(&self.text[..count]);
+        self.text = &self.text[count..];
         Ok(count)
     }
 }
 
 impl Write for Stream {
     fn write(&mut self, piece: &[u8]) -> io::Result<usize> {
-        let bytes = self.next()?;
-        if piece.starts_with(bytes) {
-            Ok(bytes.len())
-        } else {
-            Err(io::Error::from(ErrorKind::Other))
+        let count = self.turn()?.min(piece.len()).min(self.text.len());
+        if piece[..count] != self.text[..count] {
+            return Err(io::Error::from(ErrorKind::Other));
         }
+        self.text = &self.text[count..];
+        Ok(count)
     }
 
     fn flush(&mut self) -> io::Result<()> {
@@ -203,12 +195,13 @@ fn a_sink_that_fails(rt: HostRuntime) -> Result<(), Fail> {
     Ok(())
 }
 
-const READS: [Turn; 3] = [Turn::Interrupted, Turn::Does(b"xy"), Turn::Does(b"z")];
-
 // A read that was interrupted is tried again, and the bytes come in their pieces.
 #[test]
 fn a_reader_of_std(rt: HostRuntime) {
-    let mut source = ReadSource::new(Stream { turns: &READS });
+    let mut source = ReadSource::new(Stream {
+        text: b"xyz",
+        plan: &[None, Some(2), Some(1)],
+    });
     let mut buf = [0; 4];
     let told = [source.read(&mut buf), source.read(&mut buf[2..])];
     assert_eq!(rt; told, [Ok(2), Ok(1)]);
@@ -216,19 +209,15 @@ fn a_reader_of_std(rt: HostRuntime) {
     assert_eq!(rt; source.read(&mut buf), Err(Failed));
 }
 
-const WRITES: [Turn; 4] = [
-    Turn::Does(b"wh"),
-    Turn::Interrupted,
-    Turn::Does(b"ole"),
-    Turn::Does(b""),
-];
-
 // A write that was interrupted is tried again with the same bytes. One that takes nothing is a fault.
 #[test]
 fn a_writer_of_std(rt: HostRuntime) {
-    let mut sink = WriteSink::new(Stream { turns: &WRITES });
-    assert_eq!(rt; write_all(&mut sink, b"whole"), Ok(()));
-    assert_eq!(rt; write_all(&mut sink, b"x"), Err(Failed));
+    let mut sink = WriteSink::new(Stream {
+        text: b"whole",
+        plan: &[Some(2), None, Some(3), Some(0), Some(1)],
+    });
+    let told = [write_all(&mut sink, b"whole"), write_all(&mut sink, b"x")];
+    assert_eq!(rt; told, [Ok(()), Err(Failed)]);
 }
 
 // The length of the first area of a folder's disk.
