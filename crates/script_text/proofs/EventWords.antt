@@ -83,26 +83,27 @@ both : (a b : Bool) → (a && b) ≡ true → (a ≡ true) × (b ≡ true)
 both true b h = (refl, h)
 both false b h = absurd cc
 
-Lacks-text : (test : ℕ → Bool) (text : List ℕ) → test 32 ≡ false → IsTrue (list_all test text) → Lacks 32 text
-Lacks-text test [] space all = tt
-Lacks-text test (b ∷ bytes) space all =
+Lacks-text : (c : ℕ) (test : ℕ → Bool) (text : List ℕ) → test c ≡ false → IsTrue (list_all test text) → Lacks c text
+Lacks-text c test [] other all = tt
+Lacks-text c test (b ∷ bytes) other all =
     let each = both (test b) (list_all test bytes) all in
-    (ne_eqb b 32 (λ e. false≢true (sym space ∙ (ap test (sym e) ∙ each.0))), Lacks-text test bytes space each.1)
+    (ne_eqb b c (λ e. false≢true (sym other ∙ (ap test (sym e) ∙ each.0))), Lacks-text c test bytes other each.1)
+
+-- names, keys and values hold nothing but their letters
+pub Lacks-name : (c : ℕ) (name : List ℕ) → is_name_letter c ≡ false → IsTrue (is_name name) → Lacks c name
+Lacks-name c name other is = Lacks-text c is_name_letter name other (both (leb 1 (length name) && leb (length name) 64) (list_all is_name_letter name) is).1
+
+pub Lacks-key : (c : ℕ) (key : List ℕ) → is_key_letter c ≡ false → IsTrue (is_key_word key) → Lacks c key
+Lacks-key c key other is = Lacks-text c is_key_letter key other (both (leb 1 (length key) && leb (length key) 128) (list_all is_key_letter key) is).1
+
+pub Lacks-value : (c : ℕ) (value : List ℕ) → is_key_letter c ≡ false → IsTrue (is_value_word value) → Lacks c value
+Lacks-value c value other is = Lacks-text c is_key_letter value other (both (leb 1 (length value) && leb (length value) 1024) (list_all is_key_letter value) is).1
 
 Lacks-epoch : (e : Epoch) → IsBuiltEpoch e → Lacks 32 (epoch_text e)
 Lacks-epoch e is = Lacks-joined 32 46 (epoch_parts e) refl (AllLack-epoch_parts 32 e (lit< tt) is.0)
 
 Lacks-txn : (t : TxnId) → IsBuiltTxn t → Lacks 32 (txn_text t)
 Lacks-txn t is = Lacks-joined 32 46 (txn_parts t) refl (AllLack-txn_parts 32 t (lit< tt) is.0)
-
-Lacks-name : (name : List ℕ) → IsTrue (is_name name) → Lacks 32 name
-Lacks-name name is = Lacks-text is_name_letter name refl (both (leb 1 (length name) && leb (length name) 64) (list_all is_name_letter name) is).1
-
-Lacks-key : (key : List ℕ) → IsTrue (is_key_word key) → Lacks 32 key
-Lacks-key key is = Lacks-text is_key_letter key refl (both (leb 1 (length key) && leb (length key) 128) (list_all is_key_letter key) is).1
-
-Lacks-value : (value : List ℕ) → IsTrue (is_value_word value) → Lacks 32 value
-Lacks-value value is = Lacks-text is_key_letter value refl (both (leb 1 (length value) && leb (length value) 1024) (list_all is_key_letter value) is).1
 
 Lacks-kind : (kind : Kind) → Lacks 32 (kind_word kind)
 Lacks-kind kinds.Dict = search rules
@@ -118,16 +119,16 @@ Lacks-verb Delete = search rules
 AllLack-values : (call : KeyCall) → GivesValueWord call → AllLack 32 (value_words call)
 AllLack-values Get is = tt
 AllLack-values GetForUpdate is = tt
-AllLack-values (Set value) is = (Lacks-value value is, tt)
-AllLack-values (Add value) is = (Lacks-value value is, tt)
+AllLack-values (Set value) is = (Lacks-value 32 value refl is, tt)
+AllLack-values (Add value) is = (Lacks-value 32 value refl is, tt)
 AllLack-values Delete is = tt
 
 -- one line for each form
 AllLack-call : (r : ℕ) (call : Call) → r ≡ 0 → IsBuiltCall call → AllLack 32 (words_at r call)
 AllLack-call r calls.Begin zero is = (search rules, (Lacks-zero r zero, tt))
-AllLack-call r (calls.Make t name kind) zero is = (search rules, (Lacks-zero r zero, (Lacks-txn t is.0, (Lacks-name name is.1, (Lacks-kind kind, tt)))))
+AllLack-call r (calls.Make t name kind) zero is = (search rules, (Lacks-zero r zero, (Lacks-txn t is.0, (Lacks-name 32 name refl is.1, (Lacks-kind kind, tt)))))
 AllLack-call r (calls.OnKey t name key call) zero is =
-    (Lacks-verb call, (Lacks-zero r zero, (Lacks-txn t is.0, (Lacks-name name is.1, (Lacks-key key is.2, AllLack-values call is.3)))))
+    (Lacks-verb call, (Lacks-zero r zero, (Lacks-txn t is.0, (Lacks-name 32 name refl is.1, (Lacks-key 32 key refl is.2, AllLack-values call is.3)))))
 AllLack-call r (calls.Commit t) zero is = (search rules, (Lacks-zero r zero, (Lacks-txn t is, tt)))
 AllLack-call r (calls.Abort t) zero is = (search rules, (Lacks-zero r zero, (Lacks-txn t is, tt)))
 

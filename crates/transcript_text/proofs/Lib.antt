@@ -1,8 +1,8 @@
-pub mod CauseWords
 pub mod EachWord
-pub mod FormWords
+pub mod Fields
 pub mod Joined
 pub mod LineWords
-pub mod Reading
-pub mod SaidWords
+pub mod Operations
+pub mod Rows
+pub mod Tagged
 pub mod Wrongs

@@ -1,21 +1,23 @@
 -- A line and its words: where its first wrong word begins.
-use Rattle.std.proofs.Common.{◌≡◌, ◌∙◌, ℕ, ◌+◌, ◌-◌, ◌<◌, ◌≤◌, ◌^◌, List, [], ◌∷◌, ◌++◌, length, min, take, decimal, Result, Err, IsErrOf, eqb, sym, ap, subst, arith}
+use Rattle.std.proofs.Common.{◌≡◌, ◌∙◌, ℕ, ◌+◌, ◌-◌, ◌<◌, ◌≤◌, ◌^◌, List, [], ◌∷◌, ◌++◌, length, min, take, decimal, Result, Err, IsErrOf, eqb, refl, sym, ap, subst, lit<, arith}
 use Rattle.std.specs.Borrow.{Bor}
 use Rattle.std.specs.List.{slice_split, join_with_byte}
+use Rattle.std.proofs.lemmas.Fmt.{decimal_injective}
 use Rattle.std.proofs.lemmas.List.{length-append, length-map, take_at, append-nil}
 use Rattle.std.proofs.lemmas.List as lists
 use Rattle.std.proofs.lemmas.List.Splits.{join_with_byte-slice_split}
 use Rattle.log_records.specs.declared.error.CodecError.{CodecError}
 use Rattle.log_records.specs.declared.error.CodecError.TheVariants as errors
 use Rattle.script_text.specs.Reading.{texts}
-use Rattle.script_text.proofs.Parts.{joined_from_parts}
+use Rattle.script_text.proofs.Numbers.{Lacks-decimal}
+use Rattle.script_text.proofs.Parts.{joined_from_parts, parts_from_joined}
 use Rattle.order_machine.specs.declared.observation.Observation.{Observation}
-use Rattle.transcript_text.specs.Lines.{words_of}
+use Rattle.transcript_text.specs.Lines.{words_of, line_text}
 use Rattle.transcript_text.specs.Said.{IsSaid, Tells}
 use Rattle.transcript_text.specs.ReadBack.{Spells, IsWrongBehind, line_words, IsLine, place_behind, IsWrongAt}
 use Rattle.transcript_text.specs.WordReading.{IsWrong}
-use Rattle.transcript_text.proofs.Reading.{split-line_text, read_once}
-use Rattle.transcript_text.proofs.SaidWords.{printable}
+use Rattle.transcript_text.proofs.Wrongs.{same_first, same_rest}
+use Rattle.transcript_text.proofs.Rows.{AllLack-words_of, same_observation}
 
 -- ---- what a line tells
 
@@ -26,11 +28,19 @@ tells_from_words line words n o cut small said spelled = record {
   said = said;
 }
 
+split-line_text : (n : ℕ) (o : Observation) → n < 2 ^ 64 → IsSaid o → slice_split (λ b. eqb b 32) (line_text n o) ≡ line_words (n, o)
+split-line_text n o small said =
+    parts_from_joined 32 (line_text n o) (decimal n ∷ words_of o) (omega arith) (Lacks-decimal 32 n (lit< tt) small, AllLack-words_of o said) refl
+
 words_from_line : (line : List ℕ) (n : ℕ) (o : Observation) → Tells line n o → slice_split (λ b. eqb b 32) line ≡ line_words (n, o)
-words_from_line line n o tells = ap (λ l. slice_split (λ b. eqb b 32) l) tells.text ∙ split-line_text n o tells.small (printable o tells.said)
+words_from_line line n o tells = ap (λ l. slice_split (λ b. eqb b 32) l) tells.text ∙ split-line_text n o tells.small tells.said
 
 pub told_once : (line : List ℕ) (n k : ℕ) (a b : Observation) → Tells line n a → Tells line k b → (n ≡ k) × (a ≡ b)
-told_once line n k a b one other = read_once n k a b one.small other.small (printable a one.said) (printable b other.said) (sym one.text ∙ other.text)
+told_once line n k a b one other =
+    let words : line_words (n, a) ≡ line_words (k, b) = sym (words_from_line line n a one) ∙ words_from_line line k b other in (
+      decimal_injective n k one.small other.small (same_first (decimal n) (decimal k) (words_of a) (words_of b) words),
+      same_observation a b one.said other.said (same_rest (decimal n) (decimal k) (words_of a) (words_of b) words),
+    )
 
 -- words with a wrong one are no value's
 not_wrong : {X : Type 0} (spelling : X → List (List ℕ)) (Fits : X → Type 0) (front back : List (List ℕ)) → IsWrongBehind spelling Fits front back → Spells spelling Fits (front ++ back) → ⊥

@@ -1,3 +1,5 @@
+pub mod Words
+pub mod Forms
 pub mod Lines
 pub mod Said
 pub mod ReadBack

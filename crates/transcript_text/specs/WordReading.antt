@@ -5,15 +5,9 @@ use Rattle.rc_base.specs.declared.ids.TxnId.{TxnId}
 use Rattle.coll_model.specs.declared.op.Op.{Op}
 use Rattle.script_text.specs.Letters.{is_value_word}
 use Rattle.script_text.specs.Sentence.{epoch_text, txn_text, IsEpoch, IsTxn}
-use Rattle.order_machine.specs.declared.observation.Observation.{Observation}
-use Rattle.transcript_text.specs.declared.cause.Cause.{Cause}
-use Rattle.transcript_text.specs.declared.cause.Cause.TheVariants as causes
-use Rattle.transcript_text.specs.declared.form.Form.{Form}
-use Rattle.transcript_text.specs.declared.form.Form.TheVariants as forms
 use Rattle.transcript_text.specs.declared.word_error.WordError.{WordError}
 use Rattle.transcript_text.specs.declared.word_error.WordError.TheVariants.{Wrong, NoMemory}
-use Rattle.transcript_text.specs.Lines.{op_parts, op_text}
-use Rattle.transcript_text.specs.Said.{IsRowWord, IsSaidOp}
+use Rattle.transcript_text.specs.Words.{op_parts, op_text, IsRowWord, IsSaidOp}
 use Rattle.transcript_text.specs.ReadBack.{Begins, IsWrongBehind}
 
 -- The words are no value's. Those in front begin one's, and so many are left from the first wrong one on.
@@ -81,11 +75,11 @@ end_words p = epoch_text p.0 ∷ decimal p.1 ∷ []
 abbrev pub IsEnd : Epoch × ℕ → Type 0
 IsEnd p = IsEpoch p.0 × (p.1 < 2 ^ 64)
 
-abbrev pub progress_words : ℕ × Epoch × ℕ → List (List ℕ)
-progress_words p = decimal p.0 ∷ epoch_text p.1 ∷ decimal p.2 ∷ []
+abbrev pub progress_words : ℕ × (Epoch × ℕ) → List (List ℕ)
+progress_words p = decimal p.0 ∷ end_words p.1
 
-abbrev pub IsProgress : ℕ × Epoch × ℕ → Type 0
-IsProgress p = (p.0 < 9) × IsEpoch p.1 × (p.2 < 2 ^ 64)
+abbrev pub IsProgress : ℕ × (Epoch × ℕ) → Type 0
+IsProgress p = (p.0 < 9) × IsEnd p.1
 
 abbrev pub txn_words : TxnId → List (List ℕ)
 txn_words t = txn_text t ∷ []
@@ -113,39 +107,3 @@ row_words words = words
 
 abbrev pub AreRowWords : List (List ℕ) → Type 0
 AreRowWords words = All IsRowWord words
-
-abbrev pub bare_words : Observation → List (List ℕ)
-bare_words o = []
-
--- ---- forms
-
--- the word that tells a line's form
-abbrev pub form_word : Form → List ℕ
-form_word forms.Up = codes "up"
-form_word forms.Order = codes "order"
-form_word forms.View = codes "view"
-form_word forms.Active = codes "active"
-form_word forms.Committed = codes "committed"
-form_word forms.Txn = codes "txn"
-form_word forms.Done = codes "ok"
-form_word forms.Refused = codes "refused"
-form_word forms.Down = codes "down"
-form_word forms.NotActive = codes "notactive"
-form_word forms.Ended = codes "ended"
-form_word forms.Locked = codes "locked"
-form_word forms.True = codes "true"
-form_word forms.False = codes "false"
-form_word forms.Value = codes "value"
-form_word forms.Missing = codes "none"
-form_word forms.Absent = codes "absent"
-form_word forms.WrongKind = codes "wrongkind"
-form_word forms.Fault = codes "fault"
-form_word forms.Ignored = codes "ignored"
-form_word forms.Progress = codes "progress"
-form_word forms.State = codes "state"
-form_word forms.Rows = codes "rows"
-
--- the word behind `ignored`, which tells the cause
-abbrev pub cause_word : Cause → List ℕ
-cause_word causes.Up = codes "up"
-cause_word causes.OldEpoch = codes "oldepoch"

@@ -1,15 +1,15 @@
 ghost use Rattle.std.specs.Prelude.{◌≡◌, IfSome, IfNone};
 ghost use Rattle.transcript_text.specs.declared.cause.Cause.{Cause as CauseValue};
-ghost use Rattle.transcript_text.specs.WordReading.{cause_word};
+ghost use Rattle.transcript_text.specs.Forms.{cause_word};
 
-/// Why an event was ignored, which the word behind `ignored` tells.
+/// Why an event was ignored, which the word after `ignored` tells.
 #[derive(Clone, Copy, Debug, PartialEq, Eq)]
 pub(crate) enum Cause {
     Up,
     OldEpoch,
 }
 
-// The cause that the word behind `ignored` tells.
+// The cause that the word after `ignored` tells.
 pub(crate) fn cause_of(word: &[u8]) -> Option<Cause>
     ensures some { IfSome result (λ cause. word.now ≡ cause_word cause) }
     ensures none { IfNone result ((cause : CauseValue) → word.now ≡ cause_word cause → ⊥) }

@@ -1,6 +1,6 @@
 ghost use Rattle.std.specs.Prelude.{◌≡◌, IfSome, IfNone};
 ghost use Rattle.transcript_text.specs.declared.form.Form.{Form as FormValue};
-ghost use Rattle.transcript_text.specs.WordReading.{form_word};
+ghost use Rattle.transcript_text.specs.Forms.{form_word};
 
 /// The form of a line, which its first word tells: those that begin with `ignored` are one.
 #[derive(Clone, Copy, Debug, PartialEq, Eq)]

@@ -1,6 +1,6 @@
 ghost use Rattle.std.specs.Prelude.{◌≡◌, ◌&&◌, IfOk};
 ghost use Rattle.script_text.specs.Reading.{texts};
-ghost use Rattle.transcript_text.specs.Said.{is_row, is_row_word as is_row_text};
+ghost use Rattle.transcript_text.specs.Words.{is_row, is_row_word as is_row_text};
 ghost use Rattle.transcript_text.specs.WordReading.{Reads, order_words, IsOrder, op_words, AreSaidOps, row_words as row_texts, AreRowWords};
 
 use crate::op_words::op_of;

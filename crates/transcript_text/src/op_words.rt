@@ -3,8 +3,8 @@ ghost use Rattle.coll_model.specs.declared.op.Op.{Op as OpValue};
 ghost use Rattle.coll_model.specs.declared.op.Kind.{Kind as KindValue};
 ghost use Rattle.script_text.specs.Reading.{texts};
 ghost use Rattle.coll_model.specs.Rows.{kind_word};
-ghost use Rattle.transcript_text.specs.Lines.{op_text};
-ghost use Rattle.transcript_text.specs.Said.{IsSaidOp};
+ghost use Rattle.transcript_text.specs.Words.{op_text};
+ghost use Rattle.transcript_text.specs.Words.{IsSaidOp};
 ghost use Rattle.transcript_text.specs.WordReading.{AreReadAsOp};
 
 use coll_model::{Kind, Op};

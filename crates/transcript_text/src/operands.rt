@@ -129,7 +129,7 @@ fn log_end(alloc: Global, words: &[&[u8]]) -> Result<(Epoch, u64), WordError>
 pub(crate) fn replica_and_end(
     alloc: Global,
     words: &[&[u8]],
-) -> Result<(ReplicaId, Epoch, u64), WordError>
+) -> Result<(ReplicaId, (Epoch, u64)), WordError>
     ensures { Reads progress_words IsProgress (texts words.now) result }
 {
     let [word, behind @ ..] = words else {
@@ -138,8 +138,8 @@ pub(crate) fn replica_and_end(
     let Some(r) = replica(word) else {
         return Err(wrong(words));
     };
-    let (e, last) = log_end(alloc, behind)?;
-    Ok((r, e, last))
+    let end = log_end(alloc, behind)?;
+    Ok((r, end))
 }
 
 // `T`, a transaction.

@@ -5,7 +5,8 @@ ghost use Rattle.transcript_text.specs.Lines.{words_of};
 ghost use Rattle.order_machine.specs.declared.observation.Observation.{Observation as ObservationValue};
 ghost use Rattle.transcript_text.specs.Said.{IsSaid, Tells};
 ghost use Rattle.transcript_text.specs.ReadBack.{line_words, IsLine, place_behind, IsWrongAt, IsReadAs};
-ghost use Rattle.transcript_text.specs.WordReading.{Reads, bare_words, form_word, cause_word};
+ghost use Rattle.transcript_text.specs.Forms.{form_word, cause_word};
+ghost use Rattle.transcript_text.specs.WordReading.{Reads};
 
 use crate::cause::{Cause, cause_of};
 use crate::form::{Form, form_of};
@@ -46,7 +47,7 @@ pub fn read_obs(alloc: Global, line: &[u8]) -> Result<(u64, Observation), CodecE
     }
 }
 
-// The place behind the first words of a line, which is no further than its end.
+// The place after the first words of a line, which is no further than its end.
 fn place_of(line: &[u8], front: &[&[u8]]) -> u64
     requires { place_behind (texts front.now) ≤ length line.now + 1 }
     ensures { result ≡ min (place_behind (texts front.now)) (length line.now) }
@@ -62,30 +63,30 @@ fn place_of(line: &[u8], front: &[&[u8]]) -> u64
 fn numbered(alloc: Global, words: &[&[u8]]) -> Result<(u64, Observation), WordError>
     ensures { Reads line_words IsLine (texts words.now) result }
 {
-    let [word, behind @ ..] = words else {
+    let [word, after @ ..] = words else {
         return Err(wrong(words));
     };
     let Some(n) = number(word) else {
         return Err(wrong(words));
     };
-    let observation = observation(alloc, behind)?;
+    let observation = observation(alloc, after)?;
     Ok((n, observation))
 }
 
-// The observation of the words behind the number.
+// The observation of the words after the number.
 fn observation(alloc: Global, words: &[&[u8]]) -> Result<Observation, WordError>
     ensures { Reads words_of IsSaid (texts words.now) result }
 {
-    let [word, behind @ ..] = words else {
+    let [word, after @ ..] = words else {
         return Err(wrong(words));
     };
     let Some(form) = form_of(word) else {
         return Err(wrong(words));
     };
-    of_form(alloc, form, behind)
+    of_form(alloc, form, after)
 }
 
-// The observation of a form and the words behind it. Each form of line is one arm.
+// The observation of a form and the words after it. Each form of line is one arm.
 fn of_form(alloc: Global, form: Form, words: &[&[u8]]) -> Result<Observation, WordError>
     ensures { Reads words_of IsSaid (form_word form ∷ texts words.now) result }
 {
@@ -102,22 +103,40 @@ fn of_form(alloc: Global, form: Form, words: &[&[u8]]) -> Result<Observation, Wo
         Form::Active => Observation::Active(one_replica(words)?),
         Form::Committed => Observation::Committed(one_txn(alloc, words)?),
         Form::Txn => Observation::Txn(one_txn(alloc, words)?),
-        Form::Done => alone(words, Observation::Done)?,
+        Form::Done => {
+            nothing(words)?;
+            Observation::Done
+        }
         Form::Refused => Observation::Refused(one_part(words)?),
         Form::Down => Observation::Down(one_replica(words)?),
         Form::NotActive => Observation::NotActive(one_replica(words)?),
         Form::Ended => Observation::Ended(one_txn(alloc, words)?),
         Form::Locked => Observation::Locked(one_txn(alloc, words)?),
-        Form::True => alone(words, Observation::True)?,
-        Form::False => alone(words, Observation::False)?,
+        Form::True => {
+            nothing(words)?;
+            Observation::True
+        }
+        Form::False => {
+            nothing(words)?;
+            Observation::False
+        }
         Form::Value => Observation::Value(one_value(alloc, words)?),
-        Form::Missing => alone(words, Observation::Missing)?,
-        Form::Absent => alone(words, Observation::Absent)?,
-        Form::WrongKind => alone(words, Observation::WrongKind)?,
+        Form::Missing => {
+            nothing(words)?;
+            Observation::Missing
+        }
+        Form::Absent => {
+            nothing(words)?;
+            Observation::Absent
+        }
+        Form::WrongKind => {
+            nothing(words)?;
+            Observation::WrongKind
+        }
         Form::Fault => Observation::Fault(one_replica(words)?),
         Form::Ignored => ignored(alloc, words)?,
         Form::Progress => {
-            let (r, e, last) = replica_and_end(alloc, words)?;
+            let (r, (e, last)) = replica_and_end(alloc, words)?;
             Observation::Progress(r, e, last)
         }
         Form::State => {
@@ -128,36 +147,31 @@ fn of_form(alloc: Global, form: Form, words: &[&[u8]]) -> Result<Observation, Wo
     })
 }
 
-// The observation of `ignored` and the words behind it, the first of which tells the cause.
+// The observation of `ignored` and the words after it, the first of which tells the cause.
 fn ignored(alloc: Global, words: &[&[u8]]) -> Result<Observation, WordError>
     ensures { Reads words_of IsSaid (codes "ignored" ∷ texts words.now) result }
 {
-    let [word, behind @ ..] = words else {
+    let [word, after @ ..] = words else {
         return Err(wrong(words));
     };
     let Some(cause) = cause_of(word) else {
         return Err(wrong(words));
     };
-    of_cause(alloc, cause, behind)
+    of_cause(alloc, cause, after)
 }
 
-// The observation of `ignored`, a cause and the words behind it. Each cause is one arm.
+// The observation of `ignored`, a cause and the words after it. Each cause is one arm.
 fn of_cause(alloc: Global, cause: Cause, words: &[&[u8]]) -> Result<Observation, WordError>
     ensures { Reads words_of IsSaid (codes "ignored" ∷ cause_word cause ∷ texts words.now) result }
 {
     Ok(match cause {
-        Cause::Up => alone(words, Observation::IgnoredUp)?,
+        Cause::Up => {
+            nothing(words)?;
+            Observation::IgnoredUp
+        }
         Cause::OldEpoch => {
             let (fence, e) = two_epochs(alloc, words)?;
             Observation::IgnoredOldEpoch(fence, e)
         }
     })
-}
-
-// Nothing behind the words that tell the observation, which then are all of it.
-fn alone(words: &[&[u8]], said: Observation) -> Result<Observation, WordError>
-    ensures { Reads bare_words (λ o. o ≡ said) (texts words.now) result }
-{
-    nothing(words)?;
-    Ok(said)
 }

@@ -2,7 +2,8 @@ ghost use Rattle.std.specs.Prelude.{◌≡◌, ◌++◌, ◌∷◌, [], OnOk, On
 ghost use Rattle.std.specs.Io.{StartsWith};
 ghost use Rattle.script_text.specs.Sentence.{epoch_text, txn_text};
 ghost use Rattle.coll_model.specs.Rows.{kind_word};
-ghost use Rattle.transcript_text.specs.Lines.{line_text, words_of, op_text};
+ghost use Rattle.transcript_text.specs.Words.{op_text};
+ghost use Rattle.transcript_text.specs.Lines.{line_text, words_of};
 
 use coll_model::{Kind, Op};
 use itoa::Buffer;
@@ -18,7 +19,7 @@ const STOP: u8 = b'.';
 // what stands before each further part of an operation
 const COLON: u8 = b':';
 
-/// Writes the line of an observation behind `out`, without an LF.
+/// Writes the line of an observation after `out`, without an LF.
 ///
 /// # Errors
 /// `NoMemory`, and then `out` is as before.
@@ -34,7 +35,7 @@ pub fn print(number: u64, observation: &Observation, out: &mut Vec<u8>) -> Resul
     written
 }
 
-// The line. At NoMemory a part of it may stand behind `out`, as with each of these.
+// The line. At NoMemory a part of it may stand after `out`, as with each of these.
 fn write_line(number: u64, observation: &Observation, out: &mut Vec<u8>) -> Result<(), NoMemory>
     ensures ok { OnOk result (out.new.items ≡ out.old.items ++ line_text number observation.now) }
     ensures kept { StartsWith out.new.items out.old.items }
@@ -43,7 +44,7 @@ fn write_line(number: u64, observation: &Observation, out: &mut Vec<u8>) -> Resu
     write_words(observation, out)
 }
 
-// The words of the line, each behind a space. Each form of line is one arm.
+// The words of the line, each after a space. Each form of line is one arm.
 fn write_words(observation: &Observation, out: &mut Vec<u8>) -> Result<(), NoMemory>
     ensures ok { OnOk result (out.new.items ≡ out.old.items ++ flat_map (λ word. SPACE ∷ word) (words_of observation.now)) }
     ensures kept { StartsWith out.new.items out.old.items }
@@ -106,7 +107,7 @@ fn write_words(observation: &Observation, out: &mut Vec<u8>) -> Result<(), NoMem
     }
 }
 
-// words, each behind a space
+// words, each after a space
 fn write_each(words: &[Bytes], out: &mut Vec<u8>) -> Result<(), NoMemory>
     ensures ok { OnOk result (out.new.items ≡ out.old.items ++ flat_map (λ word. SPACE ∷ word) words.now) }
     ensures kept { StartsWith out.new.items out.old.items }
@@ -136,7 +137,7 @@ fn write_with_txn(word: &[u8], t: &TxnId, out: &mut Vec<u8>) -> Result<(), NoMem
     write_number(STOP, t.n, out)
 }
 
-// an epoch behind a space
+// an epoch after a space
 fn write_epoch(e: Epoch, out: &mut Vec<u8>) -> Result<(), NoMemory>
     ensures ok { OnOk result (out.new.items ≡ out.old.items ++ SPACE ∷ epoch_text e) }
     ensures kept { StartsWith out.new.items out.old.items }
@@ -145,7 +146,7 @@ fn write_epoch(e: Epoch, out: &mut Vec<u8>) -> Result<(), NoMemory>
     write_number(STOP, u64::from(e.number), out)
 }
 
-// operations, each behind a space
+// operations, each after a space
 fn write_ops(ops: &[Op], out: &mut Vec<u8>) -> Result<(), NoMemory>
     ensures ok { OnOk result (out.new.items ≡ out.old.items ++ flat_map (λ op. SPACE ∷ op_text op) ops.now) }
     ensures kept { StartsWith out.new.items out.old.items }

@@ -2,8 +2,8 @@ use Rattle.std.proofs.Common.{◌≡◌, ◌∙◌, ◌++◌, ◌∷◌, [], Lis
 use Rattle.std.proofs.lemmas.List.{map-append}
 use Rattle.std.proofs.lemmas.List.Elements.{All-push, recursion_from_All}
 use Rattle.coll_model.specs.declared.op.Op.{Op}
-use Rattle.transcript_text.specs.Lines.{op_text}
-use Rattle.transcript_text.specs.Said.{IsSaidOp}
+use Rattle.transcript_text.specs.Words.{op_text}
+use Rattle.transcript_text.specs.Words.{IsSaidOp}
 use Rattle.transcript_text.specs.WordReading.{op_words, AreSaidOps}
 use Rattle.transcript_text.proofs.EachWord.{each_more, each_wrong, one_among}
 use Rattle.transcript_text.proofs.list_words.ops_of.Goals as goal

@@ -1,7 +1,7 @@
 use Rattle.std.proofs.Common.{◌≡◌, All, take, map}
 use Rattle.script_text.specs.Reading.{texts}
-use Rattle.transcript_text.specs.Lines.{op_text}
-use Rattle.transcript_text.specs.Said.{IsSaidOp}
+use Rattle.transcript_text.specs.Words.{op_text}
+use Rattle.transcript_text.specs.Words.{IsSaidOp}
 use Rattle.transcript_text.proofs.list_words.ops_of.Given as goal
 
 -- the operations so far

@@ -1,6 +1,6 @@
 use Rattle.std.proofs.Common.{[], map, rules}
 use Rattle.script_text.specs.Sentence.{txn_text, IsTxn}
-use Rattle.transcript_text.specs.Lines.{op_text}
+use Rattle.transcript_text.specs.Words.{op_text}
 use Rattle.transcript_text.specs.WordReading.{order_words, IsOrder, op_words, AreSaidOps}
 use Rattle.transcript_text.proofs.Wrongs.{same_first, none_there, wrong_there, first_behind, no_txn, IsOrder-no_txn}
 use Rattle.transcript_text.proofs.list_words.order.Goals as goal

@@ -1,7 +1,7 @@
 use Rattle.std.proofs.Common.{◌≡◌, ◌∙◌, ◌++◌, ◌∷◌, [], List, ℕ, sym, subst}
 use Rattle.std.proofs.lemmas.Bool.{false≢true}
 use Rattle.std.proofs.lemmas.List.Elements.{All-push, recursion_from_All}
-use Rattle.transcript_text.specs.Said.{IsRowWord}
+use Rattle.transcript_text.specs.Words.{IsRowWord}
 use Rattle.transcript_text.specs.WordReading.{row_words, AreRowWords}
 use Rattle.transcript_text.proofs.EachWord.{each_more, each_wrong, among}
 use Rattle.transcript_text.proofs.list_words.row_words.Goals as goal

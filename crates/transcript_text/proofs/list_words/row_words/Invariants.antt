@@ -1,6 +1,6 @@
 use Rattle.std.proofs.Common.{◌≡◌, All, take}
 use Rattle.script_text.specs.Reading.{texts}
-use Rattle.transcript_text.specs.Said.{IsRowWord}
+use Rattle.transcript_text.specs.Words.{IsRowWord}
 use Rattle.transcript_text.proofs.list_words.row_words.Given as goal
 
 -- the words so far

@@ -3,7 +3,7 @@ use Rattle.order_machine.specs.declared.observation.Observation.TheVariants as s
 use Rattle.transcript_text.specs.Lines.{words_of}
 use Rattle.transcript_text.specs.ReadBack.{line_words, IsLine}
 use Rattle.transcript_text.proofs.Wrongs.{same_first, none_there, wrong_there}
-use Rattle.transcript_text.proofs.FormWords.{numbered_behind}
+use Rattle.transcript_text.proofs.Rows.{numbered_behind}
 use Rattle.transcript_text.proofs.parsing.numbered.Goals as goal
 
 pub returns-in_default : goal.returns-in_default

@@ -2,7 +2,7 @@ use Rattle.order_machine.specs.declared.observation.Observation.TheVariants as s
 use Rattle.transcript_text.specs.Lines.{words_of}
 use Rattle.transcript_text.specs.Said.{IsSaid}
 use Rattle.transcript_text.proofs.Wrongs.{none_there, wrong_there}
-use Rattle.transcript_text.proofs.FormWords.{no_words, no_form, with_form}
+use Rattle.transcript_text.proofs.Rows.{no_words, no_form, with_form}
 use Rattle.transcript_text.proofs.parsing.observation.Goals as goal
 
 pub returns-in_default : goal.returns-in_default

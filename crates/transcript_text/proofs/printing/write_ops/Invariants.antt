@@ -1,6 +1,6 @@
 use Rattle.std.proofs.Common.{◌≡◌, ◌++◌, ◌∷◌, flat_map, drop}
 use Rattle.std.specs.Io.{StartsWith}
-use Rattle.transcript_text.specs.Lines.{op_text}
+use Rattle.transcript_text.specs.Words.{op_text}
 use Rattle.transcript_text.proofs.printing.write_ops.Given as goal
 
 -- what is written, and the operations that are left, are all

@@ -5,7 +5,8 @@ use Rattle.std.proofs.lemmas.List.Folds.{flat_map-map}
 use Rattle.coll_model.specs.declared.op.Op.{Op}
 use Rattle.rc_base.specs.declared.ids.TxnId.{TxnId}
 use Rattle.script_text.specs.Sentence.{txn_text}
-use Rattle.transcript_text.specs.Lines.{op_text, words_of}
+use Rattle.transcript_text.specs.Words.{op_text}
+use Rattle.transcript_text.specs.Lines.{words_of}
 use Rattle.order_machine.specs.declared.observation.Observation.TheVariants.{Order}
 use Rattle.transcript_text.proofs.printing.write_words.Goals as goal
 
