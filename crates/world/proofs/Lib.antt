@@ -1,7 +1,6 @@
 pub mod Aborted
 pub mod Activating
 pub mod Alone
-pub mod Kinds
 pub mod Answer
 pub mod Answered
 pub mod Appointing
@@ -35,6 +34,7 @@ pub mod Refusals
 pub mod Reopened
 pub mod Reopening
 pub mod Roleless
+pub mod RowKinds
 pub mod Ruled
 pub mod Served
 pub mod Sound
