@@ -18,11 +18,11 @@ use Rattle.transcript_text.specs.declared.word_error.WordError.TheVariants.{Wron
 use Rattle.transcript_text.specs.Forms.{Tagged, tagged, tagged_words, AreTagged, cause_word, cause_layout, CauseFields, cause_words, AreCauseFields, LineLayout, plain, caused, LineFields, line_fields_words, AreLineFields, form_word, form_layout, FormFields, form_fields_words, AreFormFields, row_of}
 use Rattle.transcript_text.specs.Lines.{words_of}
 use Rattle.transcript_text.specs.Said.{IsSaid}
-use Rattle.transcript_text.specs.ReadBack.{Spells, line_words, IsLine}
+use Rattle.transcript_text.specs.ReadBack.{line_words, IsLine}
 use Rattle.transcript_text.specs.WordReading.{Reads}
 use Rattle.transcript_text.proofs.Fields.{AllLack-fields, same_fields}
 use Rattle.transcript_text.proofs.Tagged.{same_tagged, no_tagged, no_tag, error_tagged, error_through}
-use Rattle.transcript_text.proofs.Wrongs.{same_first, same_rest, texts_first, none_there, wrong_there, wrong_after}
+use Rattle.transcript_text.proofs.Wrongs.{same_rest, texts_first, none_there, wrong_there, wrong_after}
 
 -- ---- the words that tell forms and causes
 
