@@ -7,7 +7,7 @@ use Rattle.std.proofs.lemmas.List as lists
 use Rattle.script_text.specs.Reading.{texts}
 use Rattle.transcript_text.specs.declared.word_error.WordError.{WordError}
 use Rattle.transcript_text.specs.declared.word_error.WordError.TheVariants.{Wrong}
-use Rattle.transcript_text.specs.ReadBack.{IsWrongBehind}
+use Rattle.transcript_text.specs.ReadBack.{IsWrongAfter}
 use Rattle.transcript_text.specs.WordReading.{Reads}
 use Rattle.transcript_text.proofs.Wrongs.{same_first, same_rest}
 
@@ -42,7 +42,7 @@ each_wrong {X} spelling Fits x fits words i other e here read is none = rw is (r
   parts = sym (take-append-drop i (texts words));
   count = count;
   right = ([], (x, fits, append-nil (take i (texts words)) ∙ read));
-  wrong = subst (λ ws. IsWrongBehind spelling Fits (take i (texts words)) ws) (sym back) next;
+  wrong = subst (λ ws. IsWrongAfter spelling Fits (take i (texts words)) ws) (sym back) next;
 }) where
   within : i < length (texts words)
   within = rw (length-map words (λ slice. slice.now)) here
@@ -56,5 +56,5 @@ each_wrong {X} spelling Fits x fits words i other e here read is none = rw is (r
   back : drop i (texts words) ≡ word ∷ drop (suc i) (texts words)
   back = drop-cons (texts words) i word within ∙ ap (λ w. w ∷ drop (suc i) (texts words)) (lists.get_or-map (λ slice. slice.now) words i other word here)
 
-  next : IsWrongBehind spelling Fits (take i (texts words)) (word ∷ drop (suc i) (texts words))
+  next : IsWrongAfter spelling Fits (take i (texts words)) (word ∷ drop (suc i) (texts words))
   next = λ begins. none begins.1.0 begins.0 begins.1.1 (ap (λ ws. (ws ++ word ∷ []) ++ begins.0) (sym read) ∙ begins.1.2)

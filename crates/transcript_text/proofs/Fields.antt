@@ -6,14 +6,13 @@ use Rattle.std.proofs.lemmas.Bool.{false≢true}
 use Rattle.std.proofs.lemmas.Fmt.{decimal_injective}
 use Rattle.std.proofs.lemmas.List.Elements.{recursion_from_All}
 use Rattle.std.proofs.lemmas.List.Splits.{join_with_byte-slice_split}
-use Rattle.coll_model.specs.declared.op.Op.{Op}
 use Rattle.script_text.specs.Letters.{is_key_word, is_value_word}
 use Rattle.script_text.specs.Sentence.{epoch_text, txn_text}
 use Rattle.script_text.specs.Reading.{epoch_parts, txn_parts}
 use Rattle.script_text.proofs.Numbers.{Lacks, Lacks-decimal}
 use Rattle.script_text.proofs.Parts.{AllLack, Lacks-joined}
 use Rattle.script_text.proofs.EventWords.{AllLack-epoch_parts, AllLack-txn_parts, same_epoch, same_txn, Lacks-key, Lacks-value}
-use Rattle.transcript_text.specs.Words.{op_text, IsSaidOp, is_row, IsRowWord}
+use Rattle.transcript_text.specs.Words.{IsSaidOp, is_row, IsRowWord}
 use Rattle.transcript_text.specs.Forms.{FieldKind, replica, number, part, txn, epoch, value, Field, field_text, IsField, Layout, nothing, one, first, ops, row, Fields, fields_words, AreFields}
 use Rattle.transcript_text.proofs.Operations.{operation, operations-op_text, AllLack-op_texts}
 use Rattle.transcript_text.proofs.Wrongs.{same_first, same_rest}

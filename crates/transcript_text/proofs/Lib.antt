@@ -1,4 +1,5 @@
 pub mod EachWord
+pub mod FieldWords
 pub mod Fields
 pub mod Joined
 pub mod LineWords

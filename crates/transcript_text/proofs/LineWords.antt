@@ -14,7 +14,7 @@ use Rattle.script_text.proofs.Parts.{joined_from_parts, parts_from_joined}
 use Rattle.order_machine.specs.declared.observation.Observation.{Observation}
 use Rattle.transcript_text.specs.Lines.{words_of, line_text}
 use Rattle.transcript_text.specs.Said.{IsSaid, Tells}
-use Rattle.transcript_text.specs.ReadBack.{Spells, IsWrongBehind, line_words, IsLine, place_behind, IsWrongAt}
+use Rattle.transcript_text.specs.ReadBack.{Spells, IsWrongAfter, line_words, IsLine, place_after, IsWrongAt}
 use Rattle.transcript_text.specs.WordReading.{IsWrong}
 use Rattle.transcript_text.proofs.Wrongs.{same_first, same_rest}
 use Rattle.transcript_text.proofs.Rows.{AllLack-words_of, same_observation}
@@ -43,7 +43,7 @@ told_once line n k a b one other =
     )
 
 -- words with a wrong one are no value's
-not_wrong : {X : Type 0} (spelling : X → List (List ℕ)) (Fits : X → Type 0) (front back : List (List ℕ)) → IsWrongBehind spelling Fits front back → Spells spelling Fits (front ++ back) → ⊥
+not_wrong : {X : Type 0} (spelling : X → List (List ℕ)) (Fits : X → Type 0) (front back : List (List ℕ)) → IsWrongAfter spelling Fits front back → Spells spelling Fits (front ++ back) → ⊥
 not_wrong spelling Fits front [] wrong spells = wrong (subst (Spells spelling Fits) (append-nil front) spells)
 not_wrong spelling Fits front (word ∷ back) wrong spells = wrong (back, subst (Spells spelling Fits) (sym (lists.append_assoc front (word ∷ []) back)) spells)
 
@@ -53,14 +53,14 @@ tells_nothing line words left cut is n o tells =
 
 -- ---- places
 
-place_behind-append : (front back : List (List ℕ)) → place_behind (front ++ back) ≡ place_behind front + place_behind back
-place_behind-append [] back = omega arith
-place_behind-append (word ∷ front) back = omega (arith, place_behind-append front back)
+place_after-append : (front back : List (List ℕ)) → place_after (front ++ back) ≡ place_after front + place_after back
+place_after-append [] back = omega arith
+place_after-append (word ∷ front) back = omega (arith, place_after-append front back)
 
-place_behind-joined : (words : List (List ℕ)) → place_behind words ≤ length (join_with_byte 32 words) + 1
-place_behind-joined [] = omega arith
-place_behind-joined (word ∷ []) = omega arith
-place_behind-joined (word ∷ next ∷ words) = omega (arith, place_behind-joined (next ∷ words), length-append word (32 ∷ join_with_byte 32 (next ∷ words)))
+place_after-joined : (words : List (List ℕ)) → place_after words ≤ length (join_with_byte 32 words) + 1
+place_after-joined [] = omega arith
+place_after-joined (word ∷ []) = omega arith
+place_after-joined (word ∷ next ∷ words) = omega (arith, place_after-joined (next ∷ words), length-append word (32 ∷ join_with_byte 32 (next ∷ words)))
 
 -- the words in front, as slices
 front_texts : (words : List (Bor (List ℕ))) (count left : ℕ) (front back : List (List ℕ)) → texts words ≡ front ++ back → count ≡ length words → length back ≡ left → texts (take (count - left) words) ≡ front
@@ -70,24 +70,24 @@ front_texts words count left front back parts counted is =
     sym (lists.take-map (λ slice. slice.now) (count - left) words) ∙ (ap (take (count - left)) parts ∙ take_at front back (count - left) size)
 
 pub place_within : (line : List ℕ) (words : List (Bor (List ℕ))) (count left : ℕ) → texts words ≡ slice_split (λ b. eqb b 32) line → count ≡ length words → IsWrong line_words IsLine (texts words) left
-    → place_behind (texts (take (count - left) words)) ≤ length line + 1
+    → place_after (texts (take (count - left) words)) ≤ length line + 1
 place_within line words count left cut counted is =
-    let whole : place_behind (is.front ++ is.back) ≤ length line + 1 =
-    subst (λ ws. place_behind ws ≤ length line + 1) (sym cut ∙ is.parts) (subst (λ l. place_behind (slice_split (λ b. eqb b 32) line) ≤ length l + 1) (join_with_byte-slice_split 32 line) (place_behind-joined (slice_split (λ b. eqb b 32) line))) in
-    rw (front_texts words count left is.front is.back is.parts counted is.count) (omega (arith, whole, place_behind-append is.front is.back))
+    let whole : place_after (is.front ++ is.back) ≤ length line + 1 =
+    subst (λ ws. place_after ws ≤ length line + 1) (sym cut ∙ is.parts) (subst (λ l. place_after (slice_split (λ b. eqb b 32) line) ≤ length l + 1) (join_with_byte-slice_split 32 line) (place_after-joined (slice_split (λ b. eqb b 32) line))) in
+    rw (front_texts words count left is.front is.back is.parts counted is.count) (omega (arith, whole, place_after-append is.front is.back))
 
 -- what was answered
 abbrev pub bad_at : ℕ → Result (ℕ × Observation) CodecError
 bad_at place = Err (errors.Bad place)
 
 pub wrong_at : (line : List ℕ) (words : List (Bor (List ℕ))) (count left place : ℕ) → texts words ≡ slice_split (λ b. eqb b 32) line → count ≡ length words → IsWrong line_words IsLine (texts words) left
-    → place ≡ min (place_behind (texts (take (count - left) words))) (length line) → (at : ℕ) → IsErrOf (bad_at place) (errors.Bad at) → IsWrongAt line at
+    → place ≡ min (place_after (texts (take (count - left) words))) (length line) → (at : ℕ) → IsErrOf (bad_at place) (errors.Bad at) → IsWrongAt line at
 wrong_at line words count left place cut counted is here at same =
     let equal : place ≡ at = cc same in record {
       front = is.front;
       back = is.back;
       parts = sym cut ∙ is.parts;
-      place = sym equal ∙ (here ∙ ap (λ ws. min (place_behind ws) (length line)) (front_texts words count left is.front is.back is.parts counted is.count));
+      place = sym equal ∙ (here ∙ ap (λ ws. min (place_after ws) (length line)) (front_texts words count left is.front is.back is.parts counted is.count));
       right = is.right;
       wrong = is.wrong;
     }

@@ -18,11 +18,11 @@ use Rattle.transcript_text.specs.declared.word_error.WordError.TheVariants.{Wron
 use Rattle.transcript_text.specs.Forms.{Tagged, tagged, tagged_words, AreTagged, cause_word, cause_layout, CauseFields, cause_words, AreCauseFields, LineLayout, plain, caused, LineFields, line_fields_words, AreLineFields, form_word, form_layout, FormFields, form_fields_words, AreFormFields, row_of}
 use Rattle.transcript_text.specs.Lines.{words_of}
 use Rattle.transcript_text.specs.Said.{IsSaid}
-use Rattle.transcript_text.specs.ReadBack.{Spells, line_words, IsLine}
+use Rattle.transcript_text.specs.ReadBack.{line_words, IsLine}
 use Rattle.transcript_text.specs.WordReading.{Reads}
 use Rattle.transcript_text.proofs.Fields.{AllLack-fields, same_fields}
 use Rattle.transcript_text.proofs.Tagged.{same_tagged, no_tagged, no_tag, error_tagged, error_through}
-use Rattle.transcript_text.proofs.Wrongs.{same_first, same_rest, texts_first, none_there, wrong_there, wrong_behind}
+use Rattle.transcript_text.proofs.Wrongs.{same_rest, texts_first, none_there, wrong_there, wrong_after}
 
 -- ---- the words that tell forms and causes
 
@@ -264,10 +264,10 @@ with_form words other shape result some is reads =
     let rest = texts (take (length words - 1) (drop 1 words)) in
     subst (λ ws. Reads words_of IsSaid ws result) (sym (texts_first words other some ∙ ap (λ w. w ∷ rest) is)) reads
 
-pub numbered_behind : (n : ℕ) → n < 2 ^ 64 → (words : List (Bor (List ℕ))) (other : Bor (List ℕ)) (e : WordError) (result : Result (ℕ × Observation) WordError)
+pub numbered_error : (n : ℕ) → n < 2 ^ 64 → (words : List (Bor (List ℕ))) (other : Bor (List ℕ)) (e : WordError) (result : Result (ℕ × Observation) WordError)
     → 1 ≤ length words → (get_or words 0 other).now ≡ decimal n → result ≡ Err e → Reads words_of IsSaid (texts (take (length words - 1) (drop 1 words))) (Err e) → Reads line_words IsLine (texts words) result
-numbered_behind n small words other e result some is same =
+numbered_error n small words other e result some is same =
     let word = (get_or words 0 other).now in
-    wrong_behind line_words IsLine words_of IsSaid words other
+    wrong_after line_words IsLine words_of IsSaid words other
     (λ more spells. ((n, spells.0), (small, spells.1), ap (λ w. w ∷ more) is ∙ ap (λ ws. decimal n ∷ ws) spells.2))
     (λ more spells. (spells.0.1, spells.1.1, same_rest word (decimal spells.0.0) more (words_of spells.0.1) spells.2)) e result some same

@@ -3,9 +3,9 @@ use Rattle.std.proofs.Common.{◌≡◌, ◌∙◌, ℕ, List, [], ◌∷◌, �
 use Rattle.transcript_text.specs.declared.word_error.WordError.{WordError}
 use Rattle.transcript_text.specs.declared.word_error.WordError.TheVariants.{Wrong, NoMemory}
 use Rattle.transcript_text.specs.Forms.{Tagged, tagged, tagged_words, AreTagged}
-use Rattle.transcript_text.specs.ReadBack.{Spells, IsWrongBehind}
+use Rattle.transcript_text.specs.ReadBack.{Spells, IsWrongAfter}
 use Rattle.transcript_text.specs.WordReading.{Reads}
-use Rattle.transcript_text.proofs.Wrongs.{same_first, same_rest, error_behind}
+use Rattle.transcript_text.proofs.Wrongs.{same_first, same_rest, error_after}
 
 -- words are those of one tag and its fields, where each tag has a word of its own
 pub same_tagged : {T : Type 0} (Of : T → Type 0) (word : T → List ℕ) (words : (tag : T) → Of tag → List (List ℕ)) (Are : (tag : T) → Of tag → Type 0)
@@ -32,7 +32,7 @@ pub error_tagged : {T : Type 0} (Of : T → Type 0) (word : T → List ℕ) (wor
     → ((s t : T) → word s ≡ word t → s ≡ t) → (tag : T) (rest : List (List ℕ)) (e : WordError)
     → Reads (words tag) (Are tag) rest (Err e) → Reads (tagged_words Of word words) (AreTagged Of Are) (word tag ∷ rest) (Err e)
 error_tagged {T} Of word words Are one_tag tag rest e wrong =
-    error_behind (tagged_words Of word words) (AreTagged Of Are) (words tag) (Are tag) (word tag) to (λ more spells. from more spells.0 spells.1 spells.2) rest e wrong where
+    error_after (tagged_words Of word words) (AreTagged Of Are) (words tag) (Are tag) (word tag) to (λ more spells. from more spells.0 spells.1 spells.2) rest e wrong where
       to : (more : List (List ℕ)) → Spells (words tag) (Are tag) more → Spells (tagged_words Of word words) (AreTagged Of Are) (word tag ∷ more)
       to more spells = (tagged tag spells.0, spells.1, ap (λ ws. word tag ∷ ws) spells.2)
 
@@ -56,6 +56,6 @@ error_through {X} {Y} view built back spelling Fits words (Wrong left) is = reco
   spelled : (ws : List (List ℕ)) → Spells spelling Fits ws → Spells (λ y. spelling (view y)) (λ y. Fits (view y)) ws
   spelled ws spells = (built spells.0, subst Fits (sym (back spells.0)) spells.1, spells.2 ∙ ap spelling (sym (back spells.0)))
 
-  none : (rest : List (List ℕ)) → IsWrongBehind spelling Fits is.front rest → IsWrongBehind (λ y. spelling (view y)) (λ y. Fits (view y)) is.front rest
+  none : (rest : List (List ℕ)) → IsWrongAfter spelling Fits is.front rest → IsWrongAfter (λ y. spelling (view y)) (λ y. Fits (view y)) is.front rest
   none [] wrong = λ spells. wrong (view spells.0, spells.1, spells.2)
   none (word ∷ rest) wrong = λ begins. wrong (begins.0, (view begins.1.0, begins.1.1, begins.1.2))

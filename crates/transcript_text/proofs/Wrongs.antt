@@ -1,20 +1,17 @@
--- Words that are read from left to right, one and then those behind it.
-use Rattle.std.proofs.Common.{◌≡◌, ◌∙◌, ℕ, suc, ◌-◌, ◌<◌, ◌≤◌, List, [], ◌∷◌, ◌++◌, take, drop, get_or, length, Result, Err, refl, sym, ap, subst, arith, lit<}
+-- Words that are read from left to right, one and then those after it.
+use Rattle.std.proofs.Common.{◌≡◌, ◌∙◌, ℕ, suc, ◌-◌, ◌<◌, ◌≤◌, List, [], ◌∷◌, ◌++◌, take, drop, get_or, length, Result, Err, refl, sym, ap, subst, arith}
 use Rattle.std.specs.Borrow.{Bor}
 use Rattle.std.proofs.Math.Seq.{take-length}
 use Rattle.std.proofs.lemmas.List.{length-map}
-use Rattle.rc_base.specs.declared.ids.Epoch.{Epoch}
-use Rattle.rc_base.specs.declared.ids.TxnId.{TxnId}
 use Rattle.script_text.specs.Reading.{texts}
-use Rattle.script_text.specs.Sentence.{IsEpoch, IsTxn}
 use Rattle.transcript_text.specs.declared.word_error.WordError.{WordError}
 use Rattle.transcript_text.specs.declared.word_error.WordError.TheVariants.{Wrong, NoMemory}
-use Rattle.transcript_text.specs.ReadBack.{Spells, IsWrongBehind}
-use Rattle.transcript_text.specs.WordReading.{IsWrong, Reads, nothing_words, IsNothing, IsOrder}
+use Rattle.transcript_text.specs.ReadBack.{Spells, IsWrongAfter}
+use Rattle.transcript_text.specs.WordReading.{IsWrong, Reads}
 
 -- ---- texts
 
--- the texts of slices are that of the first and those behind it
+-- the texts of slices are that of the first and those after it
 pub texts_first : (words : List (Bor (List ℕ))) (other : Bor (List ℕ)) → 1 ≤ length words → texts words ≡ (get_or words 0 other).now ∷ texts (take (length words - 1) (drop 1 words))
 texts_first [] other some = absurd (omega arith)
 texts_first (word ∷ words) other some =
@@ -30,7 +27,7 @@ same_rest word other words others e = cc
 -- ---- lists of words
 
 -- the first word is wrong, or there is none
-at_first : {X : Type 0} (spelling : X → List (List ℕ)) (Fits : X → Type 0) (x : X) (words : List (List ℕ)) → Fits x → IsWrongBehind spelling Fits [] words → IsWrong spelling Fits words (length words)
+at_first : {X : Type 0} (spelling : X → List (List ℕ)) (Fits : X → Type 0) (x : X) (words : List (List ℕ)) → Fits x → IsWrongAfter spelling Fits [] words → IsWrong spelling Fits words (length words)
 at_first spelling Fits x words fits wrong = record {
   front = [];
   back = words;
@@ -40,12 +37,12 @@ at_first spelling Fits x words fits wrong = record {
   wrong = wrong;
 }
 
--- what is wrong behind a first word
-behind : {X Y : Type 0} (spelling : X → List (List ℕ)) (Fits : X → Type 0) (spelling' : Y → List (List ℕ)) (Fits' : Y → Type 0) (word : List ℕ)
+-- what is wrong after a first word
+after_first : {X Y : Type 0} (spelling : X → List (List ℕ)) (Fits : X → Type 0) (spelling' : Y → List (List ℕ)) (Fits' : Y → Type 0) (word : List ℕ)
     → ((words : List (List ℕ)) → Spells spelling' Fits' words → Spells spelling Fits (word ∷ words))
     → ((words : List (List ℕ)) → Spells spelling Fits (word ∷ words) → Spells spelling' Fits' words)
     → (words : List (List ℕ)) (left : ℕ) → IsWrong spelling' Fits' words left → IsWrong spelling Fits (word ∷ words) left
-behind spelling Fits spelling' Fits' word to from words left is = record {
+after_first spelling Fits spelling' Fits' word to from words left is = record {
   front = word ∷ is.front;
   back = is.back;
   parts = ap (λ ws. word ∷ ws) is.parts;
@@ -53,16 +50,16 @@ behind spelling Fits spelling' Fits' word to from words left is = record {
   right = (is.right.0, to (is.front ++ is.right.0) is.right.1);
   wrong = next is.back is.wrong;
 } where
-  next : (back : List (List ℕ)) → IsWrongBehind spelling' Fits' is.front back → IsWrongBehind spelling Fits (word ∷ is.front) back
+  next : (back : List (List ℕ)) → IsWrongAfter spelling' Fits' is.front back → IsWrongAfter spelling Fits (word ∷ is.front) back
   next [] none = λ spells. none (from is.front spells)
   next (other ∷ back) none = λ begins. none (begins.0, from ((is.front ++ other ∷ []) ++ begins.0) begins.1)
 
-pub error_behind : {X Y : Type 0} (spelling : X → List (List ℕ)) (Fits : X → Type 0) (spelling' : Y → List (List ℕ)) (Fits' : Y → Type 0) (word : List ℕ)
+pub error_after : {X Y : Type 0} (spelling : X → List (List ℕ)) (Fits : X → Type 0) (spelling' : Y → List (List ℕ)) (Fits' : Y → Type 0) (word : List ℕ)
     → ((words : List (List ℕ)) → Spells spelling' Fits' words → Spells spelling Fits (word ∷ words))
     → ((words : List (List ℕ)) → Spells spelling Fits (word ∷ words) → Spells spelling' Fits' words)
     → (words : List (List ℕ)) (e : WordError) → Reads spelling' Fits' words (Err e) → Reads spelling Fits (word ∷ words) (Err e)
-error_behind spelling Fits spelling' Fits' word to from words (Wrong left) is = behind spelling Fits spelling' Fits' word to from words left is
-error_behind spelling Fits spelling' Fits' word to from words NoMemory is = tt
+error_after spelling Fits spelling' Fits' word to from words (Wrong left) is = after_first spelling Fits spelling' Fits' word to from words left is
+error_after spelling Fits spelling' Fits' word to from words NoMemory is = tt
 
 -- ---- slices
 
@@ -79,54 +76,9 @@ wrong_there spelling Fits x fits (word ∷ words) other e some is none =
     let count : suc (length (texts words)) ≡ suc (length words) = ap suc (length-map words (λ slice. slice.now)) in
     rw is (subst (λ left. IsWrong spelling Fits (word.now ∷ texts words) left) count (at_first spelling Fits x (word.now ∷ texts words) fits (λ begins. none begins.1.0 begins.0 begins.1.1 begins.1.2)))
 
-pub wrong_behind : {X Y : Type 0} (spelling : X → List (List ℕ)) (Fits : X → Type 0) (spelling' : Y → List (List ℕ)) (Fits' : Y → Type 0) (words : List (Bor (List ℕ))) (other : Bor (List ℕ))
+pub wrong_after : {X Y : Type 0} (spelling : X → List (List ℕ)) (Fits : X → Type 0) (spelling' : Y → List (List ℕ)) (Fits' : Y → Type 0) (words : List (Bor (List ℕ))) (other : Bor (List ℕ))
     → ((more : List (List ℕ)) → Spells spelling' Fits' more → Spells spelling Fits ((get_or words 0 other).now ∷ more))
     → ((more : List (List ℕ)) → Spells spelling Fits ((get_or words 0 other).now ∷ more) → Spells spelling' Fits' more)
     → (e : WordError) (r : Result X WordError) → 1 ≤ length words → r ≡ Err e → Reads spelling' Fits' (texts (take (length words - 1) (drop 1 words))) (Err e) → Reads spelling Fits (texts words) r
-wrong_behind {X} {Y} spelling Fits spelling' Fits' words other to from e r some is wrong =
-    subst (λ (q : Result X WordError). Reads spelling Fits (texts words) q) (sym is) (subst (λ ws. Reads spelling Fits ws (Err e)) (sym (texts_first words other some)) (error_behind spelling Fits spelling' Fits' (get_or words 0 other).now to from (texts (take (length words - 1) (drop 1 words))) e wrong))
-
--- ---- one word
-
-pub one_none : {X : Type 0} (text : X → List ℕ) (Fits : X → Type 0) (x : X) → Fits x → (words : List (Bor (List ℕ))) (e : WordError) → length words < 1 → e ≡ Wrong (length words)
-    → Reads (λ y. text y ∷ []) Fits (texts words) (Err e)
-one_none text Fits x fits = none_there (λ y. text y ∷ []) Fits x fits (λ y f e. cc)
-
-pub one_wrong : {X : Type 0} (text : X → List ℕ) (Fits : X → Type 0) (x : X) → Fits x → (words : List (Bor (List ℕ))) (other : Bor (List ℕ)) (e : WordError)
-    → 1 ≤ length words → e ≡ Wrong (length words) → ((y : X) → Fits y → (get_or words 0 other).now ≡ text y → ⊥) → Reads (λ y. text y ∷ []) Fits (texts words) (Err e)
-one_wrong text Fits x fits words other e some is none =
-    wrong_there (λ y. text y ∷ []) Fits x fits words other e some is (λ y more f same. none y f (cc))
-
-pub one_more : {X : Type 0} (text : X → List ℕ) (Fits : X → Type 0) (x : X) → Fits x → (words : List (Bor (List ℕ))) (other : Bor (List ℕ)) (e : WordError) (r : Result X WordError)
-    → 1 ≤ length words → (get_or words 0 other).now ≡ text x → r ≡ Err e → Reads nothing_words IsNothing (texts (take (length words - 1) (drop 1 words))) (Err e) → Reads (λ y. text y ∷ []) Fits (texts words) r
-one_more text Fits x fits words other e r some is same =
-    wrong_behind (λ y. text y ∷ []) Fits nothing_words IsNothing words other (λ more none. (x, fits, cc)) (λ more spells. (tt, tt, cc)) e r some same
-
--- ---- a word and those behind it
-
-pub first_behind : {A B : Type 0} (text : A → List ℕ) (Is : A → Type 0) (spelling : B → List (List ℕ)) (Fits : B → Type 0) (x : A) → Is x → (words : List (Bor (List ℕ))) (other : Bor (List ℕ)) (e : WordError) (result : Result (A × B) WordError)
-    → 1 ≤ length words → (get_or words 0 other).now ≡ text x → result ≡ Err e → Reads spelling Fits (texts (take (length words - 1) (drop 1 words))) (Err e) → Reads (λ p. text p.0 ∷ spelling p.1) (λ p. Is p.0 × Fits p.1) (texts words) result
-first_behind text Is spelling Fits x fits words other e result some is same =
-    let word = (get_or words 0 other).now in
-    wrong_behind (λ p. text p.0 ∷ spelling p.1) (λ p. Is p.0 × Fits p.1) spelling Fits words other
-    (λ more spells. ((x, spells.0), (fits, spells.1), ap (λ w. w ∷ more) is ∙ ap (λ ws. text x ∷ ws) spells.2))
-    (λ more spells. (spells.0.1, spells.1.1, same_rest word (text spells.0.0) more (spelling spells.0.1) spells.2)) e result some same
-
--- ---- values
-
-pub no_epoch : Epoch
-no_epoch = record { loss = 0; number = 0 }
-
-pub IsEpoch-no_epoch : IsEpoch no_epoch
-unfolding no_epoch
-IsEpoch-no_epoch = (lit< tt, lit< tt)
-
-pub no_txn : TxnId
-no_txn = record { epoch = record { loss = 0; number = 0 }; n = 0 }
-
-pub IsTxn-no_txn : IsTxn no_txn
-unfolding no_txn
-IsTxn-no_txn = ((lit< tt, lit< tt), lit< tt)
-
-pub IsOrder-no_txn : IsOrder (no_txn, [])
-IsOrder-no_txn = (IsTxn-no_txn, (λ k d below. absurd (omega arith)))
+wrong_after {X} {Y} spelling Fits spelling' Fits' words other to from e r some is wrong =
+    subst (λ (q : Result X WordError). Reads spelling Fits (texts words) q) (sym is) (subst (λ ws. Reads spelling Fits ws (Err e)) (sym (texts_first words other some)) (error_after spelling Fits spelling' Fits' (get_or words 0 other).now to from (texts (take (length words - 1) (drop 1 words))) e wrong))

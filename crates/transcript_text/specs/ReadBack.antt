@@ -17,10 +17,10 @@ Spells {X} spelling Fits words = (x : X) × Fits x × (words ≡ spelling x)
 abbrev pub Begins : {X : Type 0} → (X → List (List ℕ)) → (X → Type 0) → List (List ℕ) → Type 0
 Begins spelling Fits words = (more : List (List ℕ)) × Spells spelling Fits (words ++ more)
 
--- Behind the words in front the next one is wrong: with it they begin no value's. Or there is none, where one must be.
-abbrev pub IsWrongBehind : {X : Type 0} → (X → List (List ℕ)) → (X → Type 0) → List (List ℕ) → List (List ℕ) → Type 0
-IsWrongBehind spelling Fits front [] = Spells spelling Fits front → ⊥
-IsWrongBehind spelling Fits front (word ∷ words) = Begins spelling Fits (front ++ word ∷ []) → ⊥
+-- After the words in front the next one is wrong: with it they begin no value's. Or there is none, where one must be.
+abbrev pub IsWrongAfter : {X : Type 0} → (X → List (List ℕ)) → (X → Type 0) → List (List ℕ) → List (List ℕ) → Type 0
+IsWrongAfter spelling Fits front [] = Spells spelling Fits front → ⊥
+IsWrongAfter spelling Fits front (word ∷ words) = Begins spelling Fits (front ++ word ∷ []) → ⊥
 
 -- ---- lines
 
@@ -36,17 +36,17 @@ abbrev pub IsReadAs : ℕ → Observation → Result (ℕ × Observation) CodecE
 IsReadAs n o (Ok read) = (read.0 ≡ n) × (read.1 ≡ o)
 IsReadAs n o (Err error) = error ≡ codecs.NoMemory
 
--- the place behind words, each with the space behind it
-abbrev pub place_behind : List (List ℕ) → ℕ
-place_behind [] = 0
-place_behind (word ∷ words) = length word + 1 + place_behind words
+-- the place after words, each with the space after it
+abbrev pub place_after : List (List ℕ) → ℕ
+place_after [] = 0
+place_after (word ∷ words) = length word + 1 + place_after words
 
--- The line tells nothing: the words in front begin a line's, and the one behind them, which begins at the place, is wrong. The place
+-- The line tells nothing: the words in front begin a line's, and the one after them, which begins at the place, is wrong. The place
 -- is the line's end where it lacks a word.
 pub record IsWrongAt (line : List ℕ) (at : ℕ) : Type 0 where
   pub front : List (List ℕ)
   pub back : List (List ℕ)
   pub parts : slice_split (λ b. b == 32) line ≡ front ++ back
-  pub place : at ≡ min (place_behind front) (length line)
+  pub place : at ≡ min (place_after front) (length line)
   pub right : Begins line_words IsLine front
-  pub wrong : IsWrongBehind line_words IsLine front back
+  pub wrong : IsWrongAfter line_words IsLine front back

@@ -1,7 +1,8 @@
 ghost use Rattle.std.specs.Prelude.{◌≡◌, ◌&&◌, IfOk};
 ghost use Rattle.script_text.specs.Reading.{texts};
 ghost use Rattle.transcript_text.specs.Words.{is_row, is_row_word as is_row_text};
-ghost use Rattle.transcript_text.specs.WordReading.{Reads, order_words, IsOrder, op_words, AreSaidOps, row_words as row_texts, AreRowWords};
+ghost use Rattle.transcript_text.specs.Forms as forms;
+ghost use Rattle.transcript_text.specs.WordReading.{ReadsFields};
 
 use crate::op_words::op_of;
 use crate::word_error::{WordError, wrong};
@@ -12,21 +13,21 @@ use std::alloc::{AllocError, Global};
 
 // `T OPS`: a transaction and its operations.
 pub(crate) fn order(alloc: Global, words: &[&[u8]]) -> Result<(TxnId, Ops), WordError>
-    ensures { Reads order_words IsOrder (texts words.now) result }
+    ensures { ReadsFields (forms.first forms.txn forms.ops) (texts words.now) result }
 {
-    let [word, behind @ ..] = words else {
+    let [word, rest @ ..] = words else {
         return Err(wrong(words));
     };
     let Some(t) = txn(alloc, word)? else {
         return Err(wrong(words));
     };
-    let ops = ops_of(alloc, behind)?;
+    let ops = ops_of(alloc, rest)?;
     Ok((t, ops))
 }
 
 // Operations, one a word.
 fn ops_of(alloc: Global, words: &[&[u8]]) -> Result<Ops, WordError>
-    ensures { Reads op_words AreSaidOps (texts words.now) result }
+    ensures { ReadsFields forms.ops (texts words.now) result }
 {
     let mut ops = Ops::new(alloc);
     for (index, word) in words.iter().enumerate() {
@@ -40,7 +41,7 @@ fn ops_of(alloc: Global, words: &[&[u8]]) -> Result<Ops, WordError>
 
 // The words of a row.
 pub(crate) fn row_words(alloc: Global, words: &[&[u8]]) -> Result<Words, WordError>
-    ensures { Reads row_texts AreRowWords (texts words.now) result }
+    ensures { ReadsFields forms.row (texts words.now) result }
 {
     let mut row = Words::new(alloc);
     for (index, word) in words.iter().enumerate() {

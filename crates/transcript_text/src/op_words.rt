@@ -31,7 +31,7 @@ fn op_of_parts(alloc: Global, parts: &[&[u8]]) -> Result<Option<Op>, NoMemory>
     op_of_verb(alloc, verb, parts)
 }
 
-// The operation of a word's first part and those behind it.
+// The operation of a word's first part and those after it.
 fn op_of_verb(alloc: Global, verb: &[u8], parts: &[&[u8]]) -> Result<Option<Op>, NoMemory>
     ensures { IfOk result (AreReadAsOp (verb.now ∷ texts parts.now)) }
 {
@@ -46,7 +46,7 @@ fn op_of_verb(alloc: Global, verb: &[u8], parts: &[&[u8]]) -> Result<Option<Op>,
     }
 }
 
-// `make:NAME:KIND`, from the parts behind the first, as are the others here.
+// `make:NAME:KIND`, from the parts after the first, as are the others here.
 fn make(alloc: Global, parts: &[&[u8]]) -> Result<Option<Op>, NoMemory>
     ensures { IfOk result (AreReadAsOp (codes "make" ∷ texts parts.now)) }
 {

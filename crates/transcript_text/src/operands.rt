@@ -1,7 +1,7 @@
 ghost use Rattle.std.specs.Prelude.{◌≡◌, ◌<◌, ◌^◌, ℕ, decimal, IfSome, IfNone};
 ghost use Rattle.script_text.specs.Reading.{texts};
-ghost use Rattle.script_text.specs.Sentence.{IsEpoch, IsTxn};
-ghost use Rattle.transcript_text.specs.WordReading.{Reads, nothing_words, IsNothing, number_words, IsReplica, IsPart, IsNumber, pair_words, IsPair, epoch_words, two_epoch_words, AreEpochs, end_words, IsEnd, progress_words, IsProgress, txn_words, value_words, IsValue};
+ghost use Rattle.transcript_text.specs.Forms as forms;
+ghost use Rattle.transcript_text.specs.WordReading.{ReadsFields};
 
 use crate::word_error::{WordError, wrong};
 use rc_base::{Bytes, Epoch, ReplicaId, TxnId};
@@ -10,7 +10,7 @@ use std::alloc::Global;
 
 // Nothing: there is no word.
 pub(crate) fn nothing(words: &[&[u8]]) -> Result<(), WordError>
-    ensures { Reads nothing_words IsNothing (texts words.now) result }
+    ensures { ReadsFields forms.nothing (texts words.now) result }
 {
     if words.is_empty() {
         Ok(())
@@ -21,43 +21,43 @@ pub(crate) fn nothing(words: &[&[u8]]) -> Result<(), WordError>
 
 // `R`, a replica.
 pub(crate) fn one_replica(words: &[&[u8]]) -> Result<ReplicaId, WordError>
-    ensures { Reads number_words IsReplica (texts words.now) result }
+    ensures { ReadsFields (forms.one forms.replica) (texts words.now) result }
 {
-    let [word, behind @ ..] = words else {
+    let [word, rest @ ..] = words else {
         return Err(wrong(words));
     };
     let Some(r) = replica(word) else {
         return Err(wrong(words));
     };
-    nothing(behind)?;
+    nothing(rest)?;
     Ok(r)
 }
 
 // `N`, a number.
 fn one_number(words: &[&[u8]]) -> Result<u64, WordError>
-    ensures { Reads number_words IsNumber (texts words.now) result }
+    ensures { ReadsFields (forms.one forms.number) (texts words.now) result }
 {
-    let [word, behind @ ..] = words else {
+    let [word, rest @ ..] = words else {
         return Err(wrong(words));
     };
     let Some(n) = number(word) else {
         return Err(wrong(words));
     };
-    nothing(behind)?;
+    nothing(rest)?;
     Ok(n)
 }
 
 // `PART`, the part of a rule.
 pub(crate) fn one_part(words: &[&[u8]]) -> Result<u8, WordError>
-    ensures { Reads number_words IsPart (texts words.now) result }
+    ensures { ReadsFields (forms.one forms.part) (texts words.now) result }
 {
-    let [word, behind @ ..] = words else {
+    let [word, rest @ ..] = words else {
         return Err(wrong(words));
     };
     let Some(part) = part_of(word) else {
         return Err(wrong(words));
     };
-    nothing(behind)?;
+    nothing(rest)?;
     Ok(part)
 }
 
@@ -71,57 +71,57 @@ fn part_of(word: &[u8]) -> Option<u8>
 
 // `R N`, a replica and a number.
 pub(crate) fn replica_and_number(words: &[&[u8]]) -> Result<(ReplicaId, u64), WordError>
-    ensures { Reads pair_words IsPair (texts words.now) result }
+    ensures { ReadsFields (forms.first forms.replica (forms.one forms.number)) (texts words.now) result }
 {
-    let [word, behind @ ..] = words else {
+    let [word, rest @ ..] = words else {
         return Err(wrong(words));
     };
     let Some(r) = replica(word) else {
         return Err(wrong(words));
     };
-    let n = one_number(behind)?;
+    let n = one_number(rest)?;
     Ok((r, n))
 }
 
 // `E`, an epoch.
 fn one_epoch(alloc: Global, words: &[&[u8]]) -> Result<Epoch, WordError>
-    ensures { Reads epoch_words IsEpoch (texts words.now) result }
+    ensures { ReadsFields (forms.one forms.epoch) (texts words.now) result }
 {
-    let [word, behind @ ..] = words else {
+    let [word, rest @ ..] = words else {
         return Err(wrong(words));
     };
     let Some(e) = epoch(alloc, word)? else {
         return Err(wrong(words));
     };
-    nothing(behind)?;
+    nothing(rest)?;
     Ok(e)
 }
 
 // `F E`, two epochs.
 pub(crate) fn two_epochs(alloc: Global, words: &[&[u8]]) -> Result<(Epoch, Epoch), WordError>
-    ensures { Reads two_epoch_words AreEpochs (texts words.now) result }
+    ensures { ReadsFields (forms.first forms.epoch (forms.one forms.epoch)) (texts words.now) result }
 {
-    let [word, behind @ ..] = words else {
+    let [word, rest @ ..] = words else {
         return Err(wrong(words));
     };
     let Some(fence) = epoch(alloc, word)? else {
         return Err(wrong(words));
     };
-    let e = one_epoch(alloc, behind)?;
+    let e = one_epoch(alloc, rest)?;
     Ok((fence, e))
 }
 
 // `E L`, the epoch and the position of a log's last record.
 fn log_end(alloc: Global, words: &[&[u8]]) -> Result<(Epoch, u64), WordError>
-    ensures { Reads end_words IsEnd (texts words.now) result }
+    ensures { ReadsFields (forms.first forms.epoch (forms.one forms.number)) (texts words.now) result }
 {
-    let [word, behind @ ..] = words else {
+    let [word, rest @ ..] = words else {
         return Err(wrong(words));
     };
     let Some(e) = epoch(alloc, word)? else {
         return Err(wrong(words));
     };
-    let last = one_number(behind)?;
+    let last = one_number(rest)?;
     Ok((e, last))
 }
 
@@ -130,42 +130,42 @@ pub(crate) fn replica_and_end(
     alloc: Global,
     words: &[&[u8]],
 ) -> Result<(ReplicaId, (Epoch, u64)), WordError>
-    ensures { Reads progress_words IsProgress (texts words.now) result }
+    ensures { ReadsFields (forms.first forms.replica (forms.first forms.epoch (forms.one forms.number))) (texts words.now) result }
 {
-    let [word, behind @ ..] = words else {
+    let [word, rest @ ..] = words else {
         return Err(wrong(words));
     };
     let Some(r) = replica(word) else {
         return Err(wrong(words));
     };
-    let end = log_end(alloc, behind)?;
+    let end = log_end(alloc, rest)?;
     Ok((r, end))
 }
 
 // `T`, a transaction.
 pub(crate) fn one_txn(alloc: Global, words: &[&[u8]]) -> Result<TxnId, WordError>
-    ensures { Reads txn_words IsTxn (texts words.now) result }
+    ensures { ReadsFields (forms.one forms.txn) (texts words.now) result }
 {
-    let [word, behind @ ..] = words else {
+    let [word, rest @ ..] = words else {
         return Err(wrong(words));
     };
     let Some(t) = txn(alloc, word)? else {
         return Err(wrong(words));
     };
-    nothing(behind)?;
+    nothing(rest)?;
     Ok(t)
 }
 
 // `VALUE`.
 pub(crate) fn one_value(alloc: Global, words: &[&[u8]]) -> Result<Bytes, WordError>
-    ensures { Reads value_words IsValue (texts words.now) result }
+    ensures { ReadsFields (forms.one forms.value) (texts words.now) result }
 {
-    let [word, behind @ ..] = words else {
+    let [word, rest @ ..] = words else {
         return Err(wrong(words));
     };
     let Some(value) = value_of(alloc, word)? else {
         return Err(wrong(words));
     };
-    nothing(behind)?;
+    nothing(rest)?;
     Ok(value)
 }

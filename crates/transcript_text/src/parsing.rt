@@ -4,7 +4,7 @@ ghost use Rattle.script_text.specs.Reading.{texts};
 ghost use Rattle.transcript_text.specs.Lines.{words_of};
 ghost use Rattle.order_machine.specs.declared.observation.Observation.{Observation as ObservationValue};
 ghost use Rattle.transcript_text.specs.Said.{IsSaid, Tells};
-ghost use Rattle.transcript_text.specs.ReadBack.{line_words, IsLine, place_behind, IsWrongAt, IsReadAs};
+ghost use Rattle.transcript_text.specs.ReadBack.{line_words, IsLine, place_after, IsWrongAt, IsReadAs};
 ghost use Rattle.transcript_text.specs.Forms.{form_word, cause_word};
 ghost use Rattle.transcript_text.specs.WordReading.{Reads};
 
@@ -49,8 +49,8 @@ pub fn read_obs(alloc: Global, line: &[u8]) -> Result<(u64, Observation), CodecE
 
 // The place after the first words of a line, which is no further than its end.
 fn place_of(line: &[u8], front: &[&[u8]]) -> u64
-    requires { place_behind (texts front.now) ≤ length line.now + 1 }
-    ensures { result ≡ min (place_behind (texts front.now)) (length line.now) }
+    requires { place_after (texts front.now) ≤ length line.now + 1 }
+    ensures { result ≡ min (place_after (texts front.now)) (length line.now) }
 {
     let mut place = 0;
     for word in front {
@@ -63,13 +63,13 @@ fn place_of(line: &[u8], front: &[&[u8]]) -> u64
 fn numbered(alloc: Global, words: &[&[u8]]) -> Result<(u64, Observation), WordError>
     ensures { Reads line_words IsLine (texts words.now) result }
 {
-    let [word, after @ ..] = words else {
+    let [word, rest @ ..] = words else {
         return Err(wrong(words));
     };
     let Some(n) = number(word) else {
         return Err(wrong(words));
     };
-    let observation = observation(alloc, after)?;
+    let observation = observation(alloc, rest)?;
     Ok((n, observation))
 }
 
@@ -77,13 +77,13 @@ fn numbered(alloc: Global, words: &[&[u8]]) -> Result<(u64, Observation), WordEr
 fn observation(alloc: Global, words: &[&[u8]]) -> Result<Observation, WordError>
     ensures { Reads words_of IsSaid (texts words.now) result }
 {
-    let [word, after @ ..] = words else {
+    let [word, rest @ ..] = words else {
         return Err(wrong(words));
     };
     let Some(form) = form_of(word) else {
         return Err(wrong(words));
     };
-    of_form(alloc, form, after)
+    of_form(alloc, form, rest)
 }
 
 // The observation of a form and the words after it. Each form of line is one arm.
@@ -151,13 +151,13 @@ fn of_form(alloc: Global, form: Form, words: &[&[u8]]) -> Result<Observation, Wo
 fn ignored(alloc: Global, words: &[&[u8]]) -> Result<Observation, WordError>
     ensures { Reads words_of IsSaid (codes "ignored" ∷ texts words.now) result }
 {
-    let [word, after @ ..] = words else {
+    let [word, rest @ ..] = words else {
         return Err(wrong(words));
     };
     let Some(cause) = cause_of(word) else {
         return Err(wrong(words));
     };
-    of_cause(alloc, cause, after)
+    of_cause(alloc, cause, rest)
 }
 
 // The observation of `ignored`, a cause and the words after it. Each cause is one arm.

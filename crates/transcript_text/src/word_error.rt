@@ -9,7 +9,7 @@ use std::alloc::AllocError;
 pub(crate) enum WordError {
     /// They are no value's. So many are left from the first wrong one on.
     Wrong { left: usize },
-    /// Want of memory.
+    /// Out of memory.
     NoMemory,
 }
 

@@ -1,15 +1,15 @@
-use Rattle.std.proofs.Common.{decimal, rules, lit<}
-use Rattle.transcript_text.specs.WordReading.{IsReplica}
-use Rattle.transcript_text.proofs.Wrongs.{one_none, one_wrong, one_more}
+use Rattle.std.proofs.Common.{rules}
+use Rattle.transcript_text.specs.Forms.{replica}
+use Rattle.transcript_text.proofs.FieldWords.{one_none, one_wrong, one_more}
 use Rattle.transcript_text.proofs.operands.one_replica.Goals as goal
 
 pub returns-in_default : goal.returns-in_default
-returns-in_default c = one_none decimal IsReplica 0 (lit< tt) c.args.words.now c.wrong.result c.in_default.len_below c.wrong.ensures
+returns-in_default c = one_none replica c.args.words.now c.wrong.result c.in_default.len_below c.wrong.ensures
 
 pub returns-in_default-replica : goal.returns-in_default-replica
 returns-in_default-replica c =
-    one_wrong decimal IsReplica 0 (lit< tt) c.args.words.now _ c.wrong-in_default-replica.result c.in-len1-up.len_at_least c.wrong-in_default-replica.ensures c.in_default-replica.ensures.none
+    one_wrong replica c.args.words.now _ c.wrong-in_default-replica.result c.in-len1-up.len_at_least c.wrong-in_default-replica.ensures c.in_default-replica.ensures.none
 
 pub returns-in_err-nothing : goal.returns-in_err-nothing
 returns-in_err-nothing c =
-    one_more decimal IsReplica c.in-Some.r c.in-Some.ensures.some.0 c.args.words.now _ c.in_err-nothing.field-0.0 c.from_residual.result c.in-len1-up.len_at_least c.in-Some.ensures.some.1 (search rules) c.in_err-nothing.ensures
+    one_more replica c.in-Some.r c.in-Some.ensures.some.0 c.args.words.now _ c.in_err-nothing.field-0.0 c.from_residual.result c.in-len1-up.len_at_least c.in-Some.ensures.some.1 (search rules) c.in_err-nothing.ensures

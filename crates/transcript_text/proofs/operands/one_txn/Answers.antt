@@ -1,16 +1,16 @@
 use Rattle.std.proofs.Common.{rules}
-use Rattle.script_text.specs.Sentence.{txn_text, IsTxn}
-use Rattle.transcript_text.proofs.Wrongs.{no_txn, IsTxn-no_txn, one_none, one_wrong, one_more}
+use Rattle.transcript_text.specs.Forms.{txn}
+use Rattle.transcript_text.proofs.FieldWords.{one_none, one_wrong, one_more}
 use Rattle.transcript_text.proofs.operands.one_txn.Goals as goal
 
 pub returns-in_default : goal.returns-in_default
-returns-in_default c = one_none txn_text IsTxn no_txn IsTxn-no_txn c.args.words.now c.wrong.result c.in_default.len_below c.wrong.ensures
+returns-in_default c = one_none txn c.args.words.now c.wrong.result c.in_default.len_below c.wrong.ensures
 
 pub returns-in_default-2 : goal.returns-in_default-2
 returns-in_default-2 c =
-    one_wrong txn_text IsTxn no_txn IsTxn-no_txn c.args.words.now _ c.wrong-in_default-2.result c.in-len1-up.len_at_least c.wrong-in_default-2.ensures (rw c.in_default-2.is at c.in_ok-t.ensures.none)
+    one_wrong txn c.args.words.now _ c.wrong-in_default-2.result c.in-len1-up.len_at_least c.wrong-in_default-2.ensures (rw c.in_default-2.is at c.in_ok-t.ensures.none)
 
 pub returns-in_err-nothing : goal.returns-in_err-nothing
 returns-in_err-nothing c =
     let read = rw c.in-Some.is at c.in_ok-t.ensures.some in
-    one_more txn_text IsTxn c.in-Some.t read.0 c.args.words.now _ c.in_err-nothing.field-0.0 c.from_residual-in_err-nothing.result c.in-len1-up.len_at_least read.1 (search rules) c.in_err-nothing.ensures
+    one_more txn c.in-Some.t read.0 c.args.words.now _ c.in_err-nothing.field-0.0 c.from_residual-in_err-nothing.result c.in-len1-up.len_at_least read.1 (search rules) c.in_err-nothing.ensures

@@ -3,7 +3,7 @@ use Rattle.order_machine.specs.declared.observation.Observation.TheVariants as s
 use Rattle.transcript_text.specs.Lines.{words_of}
 use Rattle.transcript_text.specs.ReadBack.{line_words, IsLine}
 use Rattle.transcript_text.proofs.Wrongs.{same_first, none_there, wrong_there}
-use Rattle.transcript_text.proofs.Rows.{numbered_behind}
+use Rattle.transcript_text.proofs.Rows.{numbered_error}
 use Rattle.transcript_text.proofs.parsing.numbered.Goals as goal
 
 pub returns-in_default : goal.returns-in_default
@@ -16,4 +16,4 @@ returns-in_default-number c =
 
 pub returns-in_err-observation : goal.returns-in_err-observation
 returns-in_err-observation c =
-    numbered_behind c.in-Some.n c.in-Some.ensures.some.0 c.args.words.now _ c.in_err-observation.field-0.0 c.from_residual.result c.in-len1-up.len_at_least c.in-Some.ensures.some.1 (search rules) c.in_err-observation.ensures
+    numbered_error c.in-Some.n c.in-Some.ensures.some.0 c.args.words.now _ c.in_err-observation.field-0.0 c.from_residual.result c.in-len1-up.len_at_least c.in-Some.ensures.some.1 (search rules) c.in_err-observation.ensures
