@@ -11,7 +11,7 @@ use Rattle.coll_model.specs.declared.contents.Contents.TheVariants.{Dict, Queue}
 use Rattle.coll_model.specs.Effect.{State, at_key, kind_of}
 use Rattle.key_locks.specs.declared.lock_name.LockName.TheVariants.{Name, Key}
 use Rattle.key_locks.specs.declared.lock_mode.LockMode.{LockMode}
-use Rattle.key_locks.specs.declared.lock_mode.LockMode.TheVariants.{Shared, Update, Exclusive}
+use Rattle.key_locks.specs.declared.lock_mode.LockMode.TheVariants.{Shared, Exclusive}
 use Rattle.key_locks.specs.Grants.{Grant}
 use Rattle.events.specs.declared.call.Call.{Call}
 use Rattle.events.specs.declared.call.Call.TheVariants.{Begin, Make, OnKey, Commit, Abort}

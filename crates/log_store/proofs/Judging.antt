@@ -1,5 +1,5 @@
 -- What a folded and judged area holds is a log.
-use Rattle.std.proofs.Common.{append_assoc, ◌≡◌, ℕ, ◌+◌, ◌==◌, Bool, true, false, ◌&&◌, nat_le, List, [], ◌∷◌, ◌++◌, length, Option, Some, None, Result, Ok, Err, refl, sym, ap, ◌∙◌, subst, arith}
+use Rattle.std.proofs.Common.{append_assoc, ◌≡◌, ℕ, ◌+◌, ◌==◌, Bool, true, false, ◌&&◌, nat_le, List, [], ◌∷◌, ◌++◌, length, Option, Some, None, Ok, refl, sym, ap, subst}
 use Rattle.std.specs.Prelude.{IsTrue, if◌then◌else◌, nat_le}
 use Rattle.std.specs.Option.{option_and_then}
 use Rattle.std.proofs.lemmas.Bool.{and_parts}
@@ -14,7 +14,7 @@ use Rattle.log_store.specs.declared.kept.Kept.{Kept}
 use Rattle.log_store.specs.declared.kept.Row.{Row}
 use Rattle.log_store.specs.Payload.{records_of}
 use Rattle.log_store.specs.Log.{Items, last_epoch, may_follow, IsLogBehind, IsLog}
-use Rattle.log_store.specs.Fold.{Place, told, and_then, items_of, is_in_place, first_wrong, opening, step, folded, reset_at, opened, behind_items, behind_block, behind_blocks, no_log, kept_of, held_by}
+use Rattle.log_store.specs.Fold.{told, and_then, items_of, is_in_place, first_wrong, opening, step, folded, reset_at, opened, behind_items, behind_block, behind_blocks, no_log, held_by}
 use Rattle.log_store.specs.Durable.{second_holds, durable_of}
 use Rattle.log_store.proofs.Rows.{items_of-append, stands_in_place, linked_in_place}
 use Rattle.log_store.proofs.Growing.{held, ok_is}

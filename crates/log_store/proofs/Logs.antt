@@ -5,15 +5,13 @@ use Rattle.rc_base.specs.declared.ids.Epoch.{Epoch}
 use Rattle.log_records.specs.declared.record.Record.{Record}
 use Rattle.log_records.specs.declared.record.Physical.{Physical}
 use Rattle.log_records.specs.declared.record.Physical.TheVariants.{Logical, Fence, TruncateTail, CheckpointDone, Reset, Head}
-use Rattle.txn_table.specs.declared.known.Known.{Known}
-use Rattle.txn_table.specs.declared.committed.Committed.{Committed}
 use Rattle.txn_table.specs.Commits.{Logged, known, commits, commit_in, one_or_none}
 use Rattle.txn_table.specs.Tables.{with_records}
 use Rattle.txn_table.proofs.Records.{known_append}
 use Rattle.txn_table.proofs.Logs.{commits_push}
 use Rattle.log_store.specs.declared.kept.Kept.{Kept}
 use Rattle.log_store.specs.Log.{Items, numbered, known_in, commits_in, MayStandBehind, IsLogBehind, IsLog}
-use Rattle.log_store.specs.Growth.{MayCome, after_one, after, GoesOn}
+use Rattle.log_store.specs.Growth.{after_one, after, GoesOn}
 
 -- ---- positions
 

@@ -1,5 +1,5 @@
 -- The rules of a log: which record may stand behind the others.
-use Rattle.std.specs.Prelude.{◌≡◌, ℕ, ◌+◌, Bool, true, false, ◌&&◌, nat_lt, List, [], ◌∷◌, ◌++◌, length, None, IsTrue}
+use Rattle.std.specs.Prelude.{◌≡◌, ℕ, ◌+◌, Bool, true, ◌&&◌, nat_lt, List, [], ◌∷◌, ◌++◌, length, None, IsTrue}
 use Rattle.rc_base.specs.declared.ids.Epoch.{Epoch}
 use Rattle.rc_base.specs.Ids.{epoch_lt, is_epoch, no_epoch}
 use Rattle.log_records.specs.declared.record.Record.{Record}

@@ -1,14 +1,12 @@
 -- What holds behind each whole event.
-use Rattle.std.proofs.Common.{◌≡◌, ◌∙◌, ℕ, true, false, eqb, List, [], ◌∷◌, Option, Some, None, MatchOption, cond, sym, ap}
-use Rattle.std.specs.Prelude.{is_some, option_and_then}
-use Rattle.std.specs.List.{list_all}
-use Rattle.std.specs.Option.{option_map_or}
+use Rattle.std.proofs.Common.{◌≡◌, List, [], ◌∷◌, Option, Some, None, MatchOption, cond, ap}
+use Rattle.std.specs.Prelude.{is_some}
 use Rattle.std.proofs.lemmas.Bool.{false≢true}
 use Rattle.events.specs.declared.event.Event.{Event}
 use Rattle.events.specs.declared.answer.Answer.{Answer}
 use Rattle.order_machine.specs.declared.observation.Observation.{Observation}
 use Rattle.order_machine.specs.AnswerLines.{line_of_answer}
-use Rattle.order_machine.specs.Machine.{Machine, empty_machine, role_of, appointment_of, configs_of, is_alone}
+use Rattle.order_machine.specs.Machine.{Machine, empty_machine}
 use Rattle.order_machine.specs.Transitions.{HoldsBehind, refusal, opened}
 use Rattle.order_machine.specs.Legal.{Filter, Step, behind, IsServed, IsWhole, moved, AreWhole, moved_all}
 use Rattle.order_machine.proofs.Machines.{never_put, not_alone}

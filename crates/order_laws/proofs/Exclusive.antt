@@ -1,6 +1,6 @@
 -- Each event leaves the locks of every replica exclusive.
 use Rattle.std.proofs.Common.{ℕ, Bool, true, false, sym, subst, List, [], ◌∷◌, ◌++◌, drop, Option, Some, None}
-use Rattle.std.specs.Prelude.{is_some, option_map, option_and_then}
+use Rattle.std.specs.Prelude.{is_some, option_map}
 use Rattle.std.specs.Option.{option_map_or}
 use Rattle.std.proofs.lemmas.Bool.{cond_both}
 use Rattle.rc_base.specs.declared.ids.Epoch.{Epoch}

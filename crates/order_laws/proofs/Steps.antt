@@ -24,7 +24,7 @@ use Rattle.order_machine.specs.Machine.{Machine, Txn, Appointment, never_opened,
 use Rattle.events.specs.Answers.{plain}
 use Rattle.order_machine.specs.Clients.{answer, begun_by, noted, next_txn}
 use Rattle.events.specs.Calls.{txn_named}
-use Rattle.order_machine.specs.Transitions.{Position, first_epoch, is_boot, is_call, is_opening, is_reconfiguration, May, MayAnswer, MayTellProgress, MayIgnoreOldEpoch, MayFail, MayFailFirst, logs, after, MayBeDone, failed, with_survey, surveyed, acknowledging, is_asked_commit, answering, answered_by, new_role, with_first_role, showing, activated, up_again}
+use Rattle.order_machine.specs.Transitions.{Position, first_epoch, is_boot, is_call, is_opening, is_reconfiguration, May, MayTellProgress, MayIgnoreOldEpoch, MayFail, MayFailFirst, logs, after, MayBeDone, failed, with_survey, surveyed, acknowledging, is_asked_commit, answering, answered_by, new_role, with_first_role, showing, activated, up_again}
 use Rattle.events.proofs.Lists.{at_written, some_of, none_of, passed}
 use Rattle.order_machine.proofs.Machines.{known_before}
 use Rattle.order_laws.proofs.Kept.{Kept, OfRole, order_is, kept_put, kept_without_role, kept_showing, kept_ordering, kept_acknowledging, kept_noted, kept_closed, ended_asked, kept_surveyed, kept_begun, kept_activated, kept_role_ended, stays_noting}

@@ -1,5 +1,5 @@
 -- The line of an answer.
-use Rattle.std.specs.Prelude.{List, [], ◌∷◌}
+use Rattle.std.specs.Prelude.{[]}
 use Rattle.events.specs.declared.answer.Answer.{Answer}
 use Rattle.events.specs.declared.answer.Answer.TheVariants as answers
 use Rattle.order_machine.specs.declared.observation.Observation.{Observation}

@@ -1,5 +1,5 @@
 -- Client calls at a replica: their answers, and what an answer changes.
-use Rattle.std.specs.Prelude.{ℕ, ◌+◌, true, false, not, if◌then◌else◌, List, [], ◌∷◌, ◌++◌, Option, Some, option_map}
+use Rattle.std.specs.Prelude.{ℕ, ◌+◌, true, false, not, if◌then◌else◌, [], ◌∷◌, ◌++◌, Option, Some, option_map}
 use Rattle.std.specs.Option.{option_map_or}
 use Rattle.rc_base.specs.declared.ids.TxnId.{TxnId}
 use Rattle.rc_base.specs.Ids.{no_epoch}

@@ -1,5 +1,5 @@
 -- The machine that every transcript is a run of: orders, what each replica shows, transactions, appointments.
-use Rattle.std.specs.Prelude.{ℕ, ◌-◌, Bool, false, not, ◌&&◌, ◌==◌, if◌then◌else◌, List, [], ◌∷◌, map, filter_map, replicate, set, get_or, slice_get, Option, Some, None, option_and_then, find, length}
+use Rattle.std.specs.Prelude.{ℕ, ◌-◌, Bool, false, not, ◌&&◌, ◌==◌, if◌then◌else◌, List, [], ◌∷◌, map, replicate, set, get_or, slice_get, Option, Some, None, option_and_then, find, length}
 use Rattle.std.specs.Option.{option_map_or}
 use Rattle.std.specs.List.{list_any, list_all}
 use Rattle.std.specs.Map.{lookup}

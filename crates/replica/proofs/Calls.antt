@@ -28,7 +28,7 @@ use Rattle.txn_table.specs.declared.committed.Committed.{Committed}
 use Rattle.txn_table.specs.declared.known.Known.{Known}
 use Rattle.txn_table.specs.Commits.{with_txn}
 use Rattle.txn_front.specs.Front as front
-use Rattle.txn_front.specs.Front.{Fronted, Going, IsOver, txn_at, numbered, going_of, operated, with_going, begun}
+use Rattle.txn_front.specs.Front.{Fronted, Going, IsOver, txn_at, going_of, operated, begun}
 use Rattle.log_store.specs.declared.kept.Kept.{Kept}
 use Rattle.log_store.specs.Epochs.{later}
 use Rattle.log_store.specs.Growth.{after_one, after, GoesOn}

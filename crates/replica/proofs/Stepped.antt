@@ -13,7 +13,7 @@ use Rattle.events.specs.Calls.{txn_named}
 use Rattle.log_records.specs.declared.record.Record.{Record}
 use Rattle.log_records.specs.declared.record.Physical.{Physical}
 use Rattle.txn_front.specs.Front as front
-use Rattle.txn_front.specs.Front.{Fronted, Going, AreAlike, going_of, numbered, txn_at}
+use Rattle.txn_front.specs.Front.{Fronted, Going, AreAlike, going_of}
 use Rattle.log_store.specs.declared.kept.Kept.{Kept}
 use Rattle.log_store.specs.Store.{Store}
 use Rattle.log_store.specs.Log.{Items}

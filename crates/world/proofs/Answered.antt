@@ -4,7 +4,6 @@ use Rattle.disk_model.specs.Disk.{Areas}
 use Rattle.events.specs.declared.event.Event.{Event}
 use Rattle.events.specs.declared.event.Event.TheVariants.{Boot, Arm, Reboot, Inspect}
 use Rattle.order_machine.specs.declared.observation.Observation.{Observation}
-use Rattle.order_machine.specs.declared.observation.Observation.TheVariants as says
 use Rattle.order_machine.specs.Machine.{Machine, empty_machine}
 use Rattle.order_machine.specs.Transitions.{refusal, down_of}
 use Rattle.order_machine.specs.Legal.{IsWhole, moved}

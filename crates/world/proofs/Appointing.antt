@@ -20,7 +20,7 @@ use Rattle.order_machine.specs.Transitions.{Position, HoldsBehind, refusal, open
 use Rattle.order_machine.specs.Legal.{IsWhole, moved}
 use Rattle.txn_front.specs.Front.{nothing}
 use Rattle.replica.specs.Open as opens
-use Rattle.replica.specs.Open.{Open, AreSame, AgreesWith, commits_to, shown_in, stable_in}
+use Rattle.replica.specs.Open.{Open, commits_to}
 use Rattle.replica.specs.Step.{MayStep, started}
 use Rattle.world.specs.Course.{MayFollow, IsLogged}
 use Rattle.world.specs.Disks.{as_commit}

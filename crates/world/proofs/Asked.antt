@@ -16,7 +16,6 @@ use Rattle.key_locks.specs.Grants as key_locks
 use Rattle.events.specs.declared.event.Event.TheVariants.{Client}
 use Rattle.events.specs.declared.call.Call.{Call}
 use Rattle.events.specs.declared.call.Call.TheVariants.{Begin, Make, OnKey, Commit, Abort}
-use Rattle.order_machine.specs.declared.observation.Observation.TheVariants as says
 use Rattle.events.specs.declared.answer.Reply.{Reply}
 use Rattle.order_machine.specs.Machine.{Machine, Txn, put_txn, put_grants, grants_of, ops_of}
 use Rattle.events.specs.Calls.{CallRecord, txn_named}

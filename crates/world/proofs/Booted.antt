@@ -4,8 +4,6 @@ use Rattle.std.proofs.lemmas.Bool.Decides.{nat_tests}
 use Rattle.rc_base.specs.declared.ids.TxnId.{TxnId}
 use Rattle.events.specs.declared.event.Event.TheVariants.{Client}
 use Rattle.events.specs.declared.call.Call.{Call}
-use Rattle.order_machine.specs.declared.observation.Observation.{Observation}
-use Rattle.order_machine.specs.declared.observation.Observation.TheVariants as says
 use Rattle.order_machine.specs.Order.{Entry}
 use Rattle.order_machine.specs.Machine.{Machine, Replica, Txn, is_booted}
 use Rattle.order_machine.specs.Transitions.{refusal, once_booted}

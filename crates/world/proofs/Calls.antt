@@ -40,7 +40,7 @@ use Rattle.std.proofs.lemmas.Bool.Decides.{nat_tests}
 use Rattle.txn_front.proofs.Fronts.{told_ended, called_ended}
 use Rattle.log_store.specs.Growth.{after}
 use Rattle.replica.specs.Step.{placed, logged_op, CallFits, reply, is_active, logged, logged_by, logged_call, called, answered, noted, behind, going_in, committed_by, lengthened, epoch_in}
-use Rattle.txn_front.specs.Front.{Fronted, Going, going_of, told, IsOver, AreAlike}
+use Rattle.txn_front.specs.Front.{Fronted, Going, going_of, told, AreAlike}
 use Rattle.txn_front.specs.Front as front
 use Rattle.world.specs.Disks.{as_commit}
 use Rattle.world.specs.Course.{IsCourse, IsFence}
@@ -55,7 +55,7 @@ use Rattle.world.proofs.Changed.{ChangesAt, runs_alike}
 use Rattle.world.proofs.Ended.{ended_serves}
 use Rattle.world.proofs.FrontChanges.{changes_alike, begins_changes, ends_changes, asked_changes, op_then, last_then}
 use Rattle.world.proofs.Plain.{told_is, committed_open, lengthened_shown, lengthened_contents, lengthened_role, lengthened_epoch, one_commit}
-use Rattle.world.proofs.Faultless.{answer_shows, reply_answers}
+use Rattle.world.proofs.Faultless.{answer_shows}
 use Rattle.world.proofs.Later.{Continues, continues_standing}
 use Rattle.world.proofs.Logged.{fence_called, latest_low}
 use Rattle.world.proofs.Sound.{BeginsWith, begins_still, sound_later, sound_txns}

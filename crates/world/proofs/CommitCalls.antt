@@ -28,7 +28,7 @@ use Rattle.replica.specs.declared.role.Role.TheVariants.{Other, Primary}
 use Rattle.replica.specs.declared.step.StepEvent.TheVariants as steps
 use Rattle.replica.specs.Open.{Open, AgreesWith, shown_in}
 use Rattle.replica.specs.Step.{MayStep, reply, is_active, logged_by, lengthened, stepped}
-use Rattle.txn_front.specs.Front.{Fronted, Going, going_of, told, txn_at, IsOver, AreAlike}
+use Rattle.txn_front.specs.Front.{Fronted, Going, going_of, told, txn_at, AreAlike}
 use Rattle.txn_front.specs.Front as front
 use Rattle.world.specs.Disks.{as_commit}
 use Rattle.world.specs.Course.{IsCourse, IsFence}

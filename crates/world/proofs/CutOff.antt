@@ -34,7 +34,7 @@ use Rattle.replica.specs.declared.step.StepEvent.TheVariants as steps
 use Rattle.replica.specs.Open.{Open, AgreesWith, stable_in}
 use Rattle.log_records.specs.declared.record.Record.TheVariants as recs
 use Rattle.replica.specs.Step.{placed, logged_op, logged_abort, CallFits, MayStep, reply, is_active, logged, logged_by, called, answered, committed_by, stepped, block}
-use Rattle.txn_front.specs.Front.{Fronted, Going, going_of, told, txn_at, IsOver, AreAlike}
+use Rattle.txn_front.specs.Front.{Fronted, Going, going_of, told}
 use Rattle.txn_front.specs.Front as front
 use Rattle.world.specs.Disks.{as_commit}
 use Rattle.world.specs.Course.{IsCourse, MayFollow, IsFence, IsLogged}

@@ -2,9 +2,8 @@
 use Rattle.std.proofs.Common.{◌≡◌, ◌∙◌, ap, subst, ℕ, suc, ◌+◌, ◌≤◌, Bool, true, false, cond, not, ◌&&◌, nat_lt, List, [], ◌∷◌, ◌++◌, map, Option, Some, None, Result, Ok, Err, IfOk, refl, arith, inl, inr, ◌==◌}
 use Rattle.std.specs.Option.{option_map_or}
 use Rattle.std.specs.List.{cons_option}
-use Rattle.std.proofs.lemmas.Bool.{false≢true}
 use Rattle.std.proofs.lemmas.Bool.Decides.{nat_tests}
-use Rattle.std.proofs.lemmas.Option.{none-some, same_Some}
+use Rattle.std.proofs.lemmas.Option.{same_Some}
 use Rattle.rc_base.specs.Counts.{Rose}
 use Rattle.rc_base.specs.declared.ids.TxnId.{TxnId}
 use Rattle.disk_model.specs.Disk.{Areas}
@@ -21,7 +20,7 @@ use Rattle.txn_front.specs.Front as front
 use Rattle.txn_front.specs.Front.{Going, going_of, txn_at}
 use Rattle.replica.specs.declared.step.StepEvent.TheVariants as steps
 use Rattle.replica.specs.Open.{Open}
-use Rattle.replica.specs.Step.{reply, is_active, outcome, quiet, shown_commits, committed_by}
+use Rattle.replica.specs.Step.{reply, is_active, outcome}
 use Rattle.world.specs.declared.error.WorldError.{WorldError}
 use Rattle.world.specs.Fleet.{faults_in, fault_lines, is_fault_of, RoseBy, TellsZero}
 use Rattle.world.specs.Steps.{told_by, order_line, cons_if, most_shown, IsCutOff}

@@ -10,7 +10,6 @@ use Rattle.txn_table.specs.declared.committed.Committed.{Committed}
 use Rattle.log_store.specs.declared.kept.Kept.{Kept as Log}
 use Rattle.events.specs.declared.call.Call.{Call}
 use Rattle.events.specs.declared.call.Call.TheVariants.{Commit}
-use Rattle.order_machine.specs.declared.observation.Observation.{Observation}
 use Rattle.order_machine.specs.declared.observation.Observation.TheVariants as says
 use Rattle.events.specs.declared.answer.Reply.{Reply}
 use Rattle.replica.specs.declared.step.Outcome.{Outcome}
@@ -19,7 +18,6 @@ use Rattle.replica.specs.Open.{Open}
 use Rattle.replica.specs.Step.{reply, is_active, quiet, outcome, logged_by, called, answered, going_in, committed_by, shown_commits, lengthened}
 use Rattle.txn_front.specs.Front.{Going, going_of, ended}
 use Rattle.world.specs.Steps.{told, told_by, is_due, finished, log_once, log_twice, log_behind}
-use Rattle.events.specs.declared.answer.Answer.TheVariants as answers
 use Rattle.events.specs.declared.answer.Answer.{Answer}
 use Rattle.order_machine.specs.AnswerLines.{line_of_answer}
 use Rattle.std.specs.Prelude.{option_map}

@@ -30,7 +30,7 @@ use Rattle.replica.specs.declared.role.Role.TheVariants.{Other}
 use Rattle.replica.specs.declared.step.StepEvent.TheVariants as steps
 use Rattle.replica.specs.Open.{Open}
 use Rattle.replica.specs.Step as step_spec
-use Rattle.replica.specs.Step.{quiet, surveyed, survey_answer}
+use Rattle.replica.specs.Step.{quiet, survey_answer}
 use Rattle.world.specs.declared.error.WorldError.{WorldError}
 use Rattle.world.specs.declared.error.WorldError.TheVariants as errors
 use Rattle.world.specs.Course.{AreNoted}

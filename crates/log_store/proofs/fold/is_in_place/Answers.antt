@@ -1,4 +1,4 @@
-use Rattle.std.proofs.Common.{[], ◌≡◌, Bool, true, false, Result, Ok, Err, refl, sym, subst}
+use Rattle.std.proofs.Common.{[], ◌≡◌, Bool, true, false, Result, Ok, Err, sym, subst}
 use Rattle.std.specs.Prelude.{IfOk}
 use Rattle.std.proofs.lemmas.Bool.{false≢true}
 use Rattle.rc_base.specs.declared.no_memory.NoMemory.{NoMemory}
