@@ -11,6 +11,7 @@ use Rattle.events.specs.declared.call.Call.{Call}
 use Rattle.events.specs.declared.call.Call.TheVariants.{Begin, Make, OnKey, Commit, Abort}
 use Rattle.order_machine.specs.declared.observation.Observation.{Observation}
 use Rattle.order_machine.specs.declared.observation.Observation.TheVariants as says
+use Rattle.order_machine.specs.AnswerLines.{line_of_answer}
 use Rattle.order_machine.specs.Order.{Entry}
 use Rattle.order_machine.specs.Machine.{Machine, Txn, replica, closed, ended_at, never_opened, put_role, put_txn, put_grants}
 use Rattle.key_locks.specs.Grants.{Grant, released}
@@ -211,7 +212,7 @@ pub fault_behind : (m : Machine) (event : Event) (lines : List Observation) → 
 fault_behind m event lines at_zero no_survey none whole rose answered up unfaulted holds =
     let p : Position = behind (opened m event) lines in
     let kept : IsOf event p = of_behind event (opened m event) lines (of_opened m event) in
-    let served : IsServed (opened m event) lines = subst (λ o. MatchOption o (IsServed (opened m event) lines) (λ refused. lines ≡ refused ∷ [])) none whole in
+    let served : IsServed (opened m event) lines = subst (λ o. MatchOption o (IsServed (opened m event) lines) (λ refused. lines ≡ line_of_answer refused ∷ [])) none whole in
     let complete = served.complete in
     let closes : (after p (says.Fault 0)).machine ≡ closed p.machine 0 = fault_closes event p kept at_zero no_survey in
     let then : behind (opened m event) (lines ++ says.Fault 0 ∷ []) ≡ after p (says.Fault 0) = behind_more (opened m event) lines (says.Fault 0 ∷ []) in
