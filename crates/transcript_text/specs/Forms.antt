@@ -57,28 +57,28 @@ pub data Layout : Type 0 where
   one : FieldKind → Layout
   first : FieldKind → Layout → Layout
   ops : Layout
-  row : Layout
+  row_words : Layout
 
 abbrev pub Fields : Layout → Type 0
 Fields nothing = Unit {0}
 Fields (one kind) = Field kind
 Fields (first kind more) = Field kind × Fields more
 Fields ops = List Op
-Fields row = List (List ℕ)
+Fields row_words = List (List ℕ)
 
 abbrev pub fields_words : (layout : Layout) → Fields layout → List (List ℕ)
 fields_words nothing fields = []
 fields_words (one kind) field = field_text kind field ∷ []
 fields_words (first kind more) fields = field_text kind fields.0 ∷ fields_words more fields.1
 fields_words ops list = map op_text list
-fields_words row words = words
+fields_words row_words words = words
 
 abbrev pub AreFields : (layout : Layout) → Fields layout → Type 0
 AreFields nothing fields = Unit {0}
 AreFields (one kind) field = IsField kind field
 AreFields (first kind more) fields = IsField kind fields.0 × AreFields more fields.1
 AreFields ops list = All IsSaidOp list
-AreFields row words = All IsRowWord words
+AreFields row_words words = All IsRowWord words
 
 -- ---- what a word tells, and the fields after it
 
@@ -181,7 +181,7 @@ form_layout forms.Fault = plain (one replica)
 form_layout forms.Ignored = caused
 form_layout forms.Progress = plain (first replica (first epoch (one number)))
 form_layout forms.State = plain (first replica (one number))
-form_layout forms.Rows = plain row
+form_layout forms.Rows = plain row_words
 
 abbrev pub FormFields : Form → Type 0
 FormFields form = LineFields (form_layout form)
