@@ -4,7 +4,7 @@ use Rattle.std.specs.Borrow.{Bor}
 use Rattle.script_text.specs.Reading.{texts}
 use Rattle.transcript_text.specs.declared.word_error.WordError.{WordError}
 use Rattle.transcript_text.specs.declared.word_error.WordError.TheVariants.{Wrong}
-use Rattle.transcript_text.specs.Forms.{FieldKind, replica, number, part, txn, epoch, value, Field, field_text, IsField, Layout, nothing, one, first, ops, row, Fields, fields_words, AreFields}
+use Rattle.transcript_text.specs.Forms.{FieldKind, replica, number, part, txn, epoch, value, Field, field_text, IsField, Layout, nothing, one, first, ops, row_words, Fields, fields_words, AreFields}
 use Rattle.transcript_text.specs.WordReading.{ReadsFields}
 use Rattle.transcript_text.proofs.Wrongs.{same_first, same_rest, none_there, wrong_there, wrong_after}
 
@@ -31,14 +31,14 @@ some_fields nothing = tt
 some_fields (one kind) = some_field kind
 some_fields (first kind more) = (some_field kind, some_fields more)
 some_fields ops = []
-some_fields row = []
+some_fields row_words = []
 
 AreFields-some_fields : (layout : Layout) → AreFields layout (some_fields layout)
 AreFields-some_fields nothing = tt
 AreFields-some_fields (one kind) = IsField-some_field kind
 AreFields-some_fields (first kind more) = (IsField-some_field kind, AreFields-some_fields more)
 AreFields-some_fields ops = λ k d below. absurd (omega arith)
-AreFields-some_fields row = λ k d below. absurd (omega arith)
+AreFields-some_fields row_words = λ k d below. absurd (omega arith)
 
 -- ---- one field
 

@@ -13,7 +13,7 @@ use Rattle.script_text.proofs.Numbers.{Lacks, Lacks-decimal}
 use Rattle.script_text.proofs.Parts.{AllLack, Lacks-joined}
 use Rattle.script_text.proofs.EventWords.{AllLack-epoch_parts, AllLack-txn_parts, same_epoch, same_txn, Lacks-key, Lacks-value}
 use Rattle.transcript_text.specs.Words.{IsSaidOp, is_row, IsRowWord}
-use Rattle.transcript_text.specs.Forms.{FieldKind, replica, number, part, txn, epoch, value, Field, field_text, IsField, Layout, nothing, one, first, ops, row, Fields, fields_words, AreFields}
+use Rattle.transcript_text.specs.Forms.{FieldKind, replica, number, part, txn, epoch, value, Field, field_text, IsField, Layout, nothing, one, first, ops, row_words, Fields, fields_words, AreFields}
 use Rattle.transcript_text.proofs.Operations.{operation, operations-op_text, AllLack-op_texts}
 use Rattle.transcript_text.proofs.Wrongs.{same_first, same_rest}
 
@@ -63,7 +63,7 @@ AllLack-fields nothing fields are = tt
 AllLack-fields (one kind) field are = (Lacks-field kind field are, tt)
 AllLack-fields (first kind more) fields are = (Lacks-field kind fields.0 are.0, AllLack-fields more fields.1 are.1)
 AllLack-fields ops list are = AllLack-op_texts list (recursion_from_All IsSaidOp list are)
-AllLack-fields row words are = AllLack-row_words words (recursion_from_All IsRowWord words are)
+AllLack-fields row_words words are = AllLack-row_words words (recursion_from_All IsRowWord words are)
 
 pub same_fields : (layout : Layout) (a b : Fields layout) → AreFields layout a → AreFields layout b → fields_words layout a ≡ fields_words layout b → a ≡ b
 same_fields nothing a b are_a are_b same = refl
@@ -74,4 +74,4 @@ same_fields (first kind more) a b are_a are_b same =
     ap₂ (λ (x : Field kind) (y : Fields more). let both : Fields (first kind more) = (x, y) in both) firsts others
 same_fields ops a b are_a are_b same =
     sym (operations-op_text a (recursion_from_All IsSaidOp a are_a)) ∙ (ap (map operation) same ∙ operations-op_text b (recursion_from_All IsSaidOp b are_b))
-same_fields row a b are_a are_b same = same
+same_fields row_words a b are_a are_b same = same

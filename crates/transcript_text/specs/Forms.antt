@@ -57,30 +57,34 @@ pub data Layout : Type 0 where
   one : FieldKind → Layout
   first : FieldKind → Layout → Layout
   ops : Layout
-  row : Layout
+  row_words : Layout
 
 abbrev pub Fields : Layout → Type 0
 Fields nothing = Unit {0}
 Fields (one kind) = Field kind
 Fields (first kind more) = Field kind × Fields more
 Fields ops = List Op
-Fields row = List (List ℕ)
+Fields row_words = List (List ℕ)
 
 abbrev pub fields_words : (layout : Layout) → Fields layout → List (List ℕ)
 fields_words nothing fields = []
 fields_words (one kind) field = field_text kind field ∷ []
 fields_words (first kind more) fields = field_text kind fields.0 ∷ fields_words more fields.1
 fields_words ops list = map op_text list
-fields_words row words = words
+fields_words row_words words = words
 
 abbrev pub AreFields : (layout : Layout) → Fields layout → Type 0
 AreFields nothing fields = Unit {0}
 AreFields (one kind) field = IsField kind field
 AreFields (first kind more) fields = IsField kind fields.0 × AreFields more fields.1
 AreFields ops list = All IsSaidOp list
-AreFields row words = All IsRowWord words
+AreFields row_words words = All IsRowWord words
 
 -- ---- what a word tells, and the fields after it
+
+pub record Row (L : Type 0) : Type 0 where
+  pub word : List ℕ
+  pub layout : L
 
 -- a tag with its fields: a word tells the tag
 pub data Tagged {T : Type 0} (Of : T → Type 0) : Type 0 where
@@ -95,13 +99,15 @@ AreTagged Of Are (tagged tag fields) = Are tag fields
 -- ---- causes
 
 -- the word after `ignored`, which tells the cause, and the fields after it
+abbrev pub cause_row : Cause → Row Layout
+cause_row causes.Up = record { word = codes "up"; layout = nothing }
+cause_row causes.OldEpoch = record { word = codes "oldepoch"; layout = first epoch (one epoch) }
+
 abbrev pub cause_word : Cause → List ℕ
-cause_word causes.Up = codes "up"
-cause_word causes.OldEpoch = codes "oldepoch"
+cause_word cause = (cause_row cause).word
 
 abbrev pub cause_layout : Cause → Layout
-cause_layout causes.Up = nothing
-cause_layout causes.OldEpoch = first epoch (one epoch)
+cause_layout cause = (cause_row cause).layout
 
 abbrev pub CauseFields : Cause → Type 0
 CauseFields cause = Fields (cause_layout cause)
@@ -131,57 +137,37 @@ abbrev pub AreLineFields : (layout : LineLayout) → LineFields layout → Type 
 AreLineFields (plain layout) fields = AreFields layout fields
 AreLineFields caused fields = AreTagged CauseFields AreCauseFields fields
 
--- the word that tells a line's form
-abbrev pub form_word : Form → List ℕ
-form_word forms.Up = codes "up"
-form_word forms.Order = codes "order"
-form_word forms.View = codes "view"
-form_word forms.Active = codes "active"
-form_word forms.Committed = codes "committed"
-form_word forms.Txn = codes "txn"
-form_word forms.Done = codes "ok"
-form_word forms.Refused = codes "refused"
-form_word forms.Down = codes "down"
-form_word forms.NotActive = codes "notactive"
-form_word forms.Ended = codes "ended"
-form_word forms.Locked = codes "locked"
-form_word forms.True = codes "true"
-form_word forms.False = codes "false"
-form_word forms.Value = codes "value"
-form_word forms.Missing = codes "none"
-form_word forms.Absent = codes "absent"
-form_word forms.WrongKind = codes "wrongkind"
-form_word forms.Fault = codes "fault"
-form_word forms.Ignored = codes "ignored"
-form_word forms.Progress = codes "progress"
-form_word forms.State = codes "state"
-form_word forms.Rows = codes "rows"
+-- the word that tells a line's form, and the fields after it
+abbrev pub form_row : Form → Row LineLayout
+form_row forms.Up = record { word = codes "up"; layout = plain (one replica) }
+form_row forms.Order = record { word = codes "order"; layout = plain (first txn ops) }
+form_row forms.View = record { word = codes "view"; layout = plain (first replica (one number)) }
+form_row forms.Active = record { word = codes "active"; layout = plain (one replica) }
+form_row forms.Committed = record { word = codes "committed"; layout = plain (one txn) }
+form_row forms.Txn = record { word = codes "txn"; layout = plain (one txn) }
+form_row forms.Done = record { word = codes "ok"; layout = plain nothing }
+form_row forms.Refused = record { word = codes "refused"; layout = plain (one part) }
+form_row forms.Down = record { word = codes "down"; layout = plain (one replica) }
+form_row forms.NotActive = record { word = codes "notactive"; layout = plain (one replica) }
+form_row forms.Ended = record { word = codes "ended"; layout = plain (one txn) }
+form_row forms.Locked = record { word = codes "locked"; layout = plain (one txn) }
+form_row forms.True = record { word = codes "true"; layout = plain nothing }
+form_row forms.False = record { word = codes "false"; layout = plain nothing }
+form_row forms.Value = record { word = codes "value"; layout = plain (one value) }
+form_row forms.Missing = record { word = codes "none"; layout = plain nothing }
+form_row forms.Absent = record { word = codes "absent"; layout = plain nothing }
+form_row forms.WrongKind = record { word = codes "wrongkind"; layout = plain nothing }
+form_row forms.Fault = record { word = codes "fault"; layout = plain (one replica) }
+form_row forms.Ignored = record { word = codes "ignored"; layout = caused }
+form_row forms.Progress = record { word = codes "progress"; layout = plain (first replica (first epoch (one number))) }
+form_row forms.State = record { word = codes "state"; layout = plain (first replica (one number)) }
+form_row forms.Rows = record { word = codes "rows"; layout = plain row_words }
 
--- the fields after it
+abbrev pub form_word : Form → List ℕ
+form_word form = (form_row form).word
+
 abbrev pub form_layout : Form → LineLayout
-form_layout forms.Up = plain (one replica)
-form_layout forms.Order = plain (first txn ops)
-form_layout forms.View = plain (first replica (one number))
-form_layout forms.Active = plain (one replica)
-form_layout forms.Committed = plain (one txn)
-form_layout forms.Txn = plain (one txn)
-form_layout forms.Done = plain nothing
-form_layout forms.Refused = plain (one part)
-form_layout forms.Down = plain (one replica)
-form_layout forms.NotActive = plain (one replica)
-form_layout forms.Ended = plain (one txn)
-form_layout forms.Locked = plain (one txn)
-form_layout forms.True = plain nothing
-form_layout forms.False = plain nothing
-form_layout forms.Value = plain (one value)
-form_layout forms.Missing = plain nothing
-form_layout forms.Absent = plain nothing
-form_layout forms.WrongKind = plain nothing
-form_layout forms.Fault = plain (one replica)
-form_layout forms.Ignored = caused
-form_layout forms.Progress = plain (first replica (first epoch (one number)))
-form_layout forms.State = plain (first replica (one number))
-form_layout forms.Rows = plain row
+form_layout form = (form_row form).layout
 
 abbrev pub FormFields : Form → Type 0
 FormFields form = LineFields (form_layout form)

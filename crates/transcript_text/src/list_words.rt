@@ -41,7 +41,7 @@ fn ops_of(alloc: Global, words: &[&[u8]]) -> Result<Ops, WordError>
 
 // The words of a row.
 pub(crate) fn row_words(alloc: Global, words: &[&[u8]]) -> Result<Words, WordError>
-    ensures { ReadsFields forms.row (texts words.now) result }
+    ensures { ReadsFields forms.row_words (texts words.now) result }
 {
     let mut row = Words::new(alloc);
     for (index, word) in words.iter().enumerate() {

@@ -2,7 +2,8 @@ use Rattle.std.proofs.Common.{◌≡◌, ◌∙◌, ◌++◌, ◌∷◌, [], Lis
 use Rattle.std.proofs.lemmas.Bool.{false≢true}
 use Rattle.std.proofs.lemmas.List.Elements.{All-push, recursion_from_All}
 use Rattle.transcript_text.specs.Words.{IsRowWord}
-use Rattle.transcript_text.specs.Forms.{row, fields_words, AreFields}
+use Rattle.transcript_text.specs.Forms.{fields_words, AreFields}
+use Rattle.transcript_text.specs.Forms as forms
 use Rattle.transcript_text.proofs.EachWord.{each_more, each_wrong, among}
 use Rattle.transcript_text.proofs.list_words.row_words.Goals as goal
 
@@ -11,7 +12,7 @@ no_row before word none words more all e = none (among IsRowWord before word mor
 
 pub returns-then-not-branch : goal.returns-then-not-branch
 returns-then-not-branch c =
-    each_wrong (fields_words row) (AreFields row) c.loop-index.row c.loop-index.invariant.rows c.args.words.now c.loop-index.index _ c.wrong.result c.loop-index-test.true c.loop-index.invariant.read c.wrong.ensures
+    each_wrong (fields_words forms.row_words) (AreFields forms.row_words) c.loop-index.row c.loop-index.invariant.rows c.args.words.now c.loop-index.index _ c.wrong.result c.loop-index-test.true c.loop-index.invariant.read c.wrong.ensures
     (no_row c.loop-index.row _ (λ is. false≢true (sym c.if-not-branch.true ∙ (c.in_ok-is_row_word.ensures ∙ is))))
 
 pub loop-index-preserved : goal.loop-index-preserved
