@@ -39,8 +39,8 @@ asked_fits name key Delete n k given = (n, key_fits key k)
 
 call_fits : (call : Call) → IsBuiltCall call → CallFits call
 call_fits calls.Begin h = tt
-call_fits (calls.Make t name kind) h = h.2.1
-call_fits (calls.OnKey t name key asked) h = asked_fits name key asked h.2.1 h.2.2.1 h.2.2.2
+call_fits (calls.Make t name kind) h = h.1
+call_fits (calls.OnKey t name key asked) h = asked_fits name key asked h.1 h.2 h.3
 call_fits (calls.Commit t) h = tt
 call_fits (calls.Abort t) h = tt
 
