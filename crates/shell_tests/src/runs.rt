@@ -36,7 +36,7 @@ fn world_words(alloc: Global) -> Result<Vec<String>, Fail> {
 }
 
 // A run of the script over this source and this sink.
-fn played(alloc: Global, mut source: MemSource, mut sink: MemSink) -> Result<Played, Fail> {
+fn play_script(alloc: Global, mut source: MemSource, mut sink: MemSink) -> Result<Played, Fail> {
     let words = world_words(alloc)?;
     let mut host = MemHost::new(alloc, Vec::new(alloc));
     let mut fleet = nine_disks(alloc)?;
@@ -73,7 +73,7 @@ fn ends(
         Vec::from_slice(alloc, faults.0)?,
     );
     let sink = MemSink::new(alloc, faults.2, Vec::from_slice(alloc, faults.1)?);
-    let run = played(alloc, source, sink)?;
+    let run = play_script(alloc, source, sink)?;
     assert_eq!(rt; run.status, status);
     assert_eq!(rt; run.text.as_slice(), text);
     Ok(())
@@ -152,7 +152,7 @@ fn held_by(alloc: Global, disk: &mut MemDisk) -> Result<Items, Fail> {
 fn the_log_has_the_records_of_its_steps(rt: HostRuntime) -> Result<(), Fail> {
     let source = MemSource::new(Vec::from_slice(rt.alloc(), SCRIPT)?, Vec::new(rt.alloc()));
     let sink = MemSink::new(rt.alloc(), None, Vec::new(rt.alloc()));
-    let mut run = played(rt.alloc(), source, sink)?;
+    let mut run = play_script(rt.alloc(), source, sink)?;
     let Some(disk) = run.fleet.first_mut() else {
         panic!(rt; "no disk");
     };
