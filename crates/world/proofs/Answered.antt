@@ -46,34 +46,4 @@ answered_serves old new images event o number (Ok lines) told kept memory rising
     (a.whole, subst (λ n. StandsFor new images n) (sym a.same) later, stands_still old images m s))
 answered_serves old new images event o number (Err e) told kept memory rising answered = no_memory old new images images event e (λ m s. stands_still old images m s) memory
 
--- where memory ran out before anything was done
-pub err_serves : {T : Type 0} (old new : Kept) (before now : Areas → Type 0) (event : Event) (result : Result (List Observation) WorldError) (e : WorldError) → ((m : Machine) → StandsFor old before m → StillHolds m now) → (y : WorldError) × (result ≡ Err y) × (y ≡ e) → ◌≡◌ {A = Result T WorldError} (Err e) (Err errors.NoMemory) → Serves old new before now event result
-err_serves old new before now event result e still y is =
-    let none : e ≡ errors.NoMemory = cc in
-    let all : result ≡ Err errors.NoMemory = y.1 ∙ ap Err (y.2 ∙ none) in
-    subst (λ r. Serves old new before now event r) (sym all) still
-
 -- ---- which are answered so
-
--- before the boot
-pub new_refuses : (k : Kept) (images : Areas → Type 0) (event : Event) → has_booted k ≡ false → refusal empty_machine event ≡ Some (answers.Refused 9) → (m : Machine) → StandsFor k images m → refusal m event ≡ Some (answers.Refused 9)
-new_refuses k images event new e m s = let n = new_of k images m new s in subst (λ x. refusal x event ≡ Some (answers.Refused 9)) (sym n.is) e
-
--- a second boot
-pub boot_refuses : (k : Kept) (images : Areas → Type 0) → has_booted k ≡ true → (m : Machine) → StandsFor k images m → refusal m (Boot 0 (0 ∷ [])) ≡ Some (answers.Refused 9)
-boot_refuses k images booted m s = rw (booted_stands k images m booted s) refl
-
--- what asks something of a closed replica
-pub arm_down : (k : Kept) (images : Areas → Type 0) (calls : ℕ) → has_booted k ≡ true → k.replica ≡ None → (m : Machine) → StandsFor k images m → refusal m (Arm 0 calls) ≡ Some (answers.Down 0)
-arm_down k images calls booted none m s = let c = closed_of k images m booted none s in once_standing m (down_of m 0) (booted_stands k images m booted s) ∙ rw c.is_shut.is refl
-
-pub inspect_down : (k : Kept) (images : Areas → Type 0) → has_booted k ≡ true → k.replica ≡ None → (m : Machine) → StandsFor k images m → refusal m (Inspect 0) ≡ Some (answers.Down 0)
-inspect_down k images booted none m s = let c = closed_of k images m booted none s in once_standing m (down_of m 0) (booted_stands k images m booted s) ∙ rw c.is_shut.is refl
-
--- what opens an open one
-pub reboot_ignored : (k : Kept) (images : Areas → Type 0) (r : Open) → has_booted k ≡ true → k.replica ≡ Some r → (m : Machine) → StandsFor k images m → refusal m (Reboot 0) ≡ Some answers.IgnoredUp
-reboot_ignored k images r booted some m s = rw (booted_stands k images m booted s, up_role r.role k.last r images m (open_of k images m r booted some s)) refl
-
--- the same, of another error that tells want of memory
-pub memory_serves : (old new : Kept) (before now : Areas → Type 0) (event : Event) (result : Result (List Observation) WorldError) → ((m : Machine) → StandsFor old before m → StillHolds m now) → (y : WorldError) × (result ≡ Err y) × (y ≡ errors.NoMemory) → Serves old new before now event result
-memory_serves old new before now event result still y = subst (λ r. Serves old new before now event r) (sym (y.1 ∙ ap Err y.2)) still

@@ -37,10 +37,6 @@ use Rattle.world.proofs.Told.{machine_of, IsKnown, known_of, answer_told, live_r
 use Rattle.events.specs.declared.answer.Answer.TheVariants as answers
 use Rattle.order_machine.specs.AnswerLines.{line_of_answer}
 
--- it goes on with what it was answered
-abbrev pub more_done : Going → Option Op → Going
-more_done g op = record { last = g.last; ops = g.ops ++ cons_option op [] }
-
 abbrev pub grants_then : Fronted → State → TxnId → Going → Call → List Grant
 grants_then front contents t g call = taken front.grants t (locks_at (folded contents g.ops) call)
 

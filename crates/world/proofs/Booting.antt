@@ -1,6 +1,6 @@
 -- The boot of replica 0 over a disk without a log.
 use Rattle.std.specs.Prelude.{if◌then◌else◌}
-use Rattle.std.proofs.Common.{◌≡◌, ◌∙◌, sym, ap, subst, refl, ℕ, ◌+◌, ◌≤◌, Bool, true, false, List, [], ◌∷◌, ◌++◌, length, map, flat_map, Option, Some, None, is_some, Ok, arith, inl, inr, ◌⊎◌, ⊎_elim, suc}
+use Rattle.std.proofs.Common.{max, ◌≡◌, ◌∙◌, sym, ap, subst, refl, ℕ, ◌+◌, ◌≤◌, Bool, true, false, List, [], ◌∷◌, ◌++◌, length, map, flat_map, Option, Some, None, is_some, Ok, arith, inl, inr, ◌⊎◌, ⊎_elim, suc}
 use Rattle.std.specs.Option.{ForSome, IsSome, IfSome}
 use Rattle.std.proofs.lemmas.Bool.{false≢true}
 use Rattle.std.specs.List.{list_any}
@@ -34,7 +34,8 @@ use Rattle.replica.specs.Step.{MayStep}
 use Rattle.world.specs.Fleet.{faults_in, TellsZero}
 use Rattle.world.specs.Course.{IsCourse, IsOurs, ArePast, IsFence}
 use Rattle.world.specs.Standing.{Course, first_course}
-use Rattle.world.specs.Steps.{told_start, finished, log_once, log_twice, log_behind, HoldsSome, is_active_line}
+use Rattle.world.specs.declared.effects.EventEffects.{EventEffects}
+use Rattle.world.specs.Steps.{effects_started, told_start, finished, log_once, log_twice, log_behind, HoldsSome}
 use Rattle.world.specs.Disks.{as_commit}
 use Rattle.world.specs.Kept.{Kept, no_events, has_booted}
 use Rattle.world.specs.Running.{running, RunsWith}
@@ -120,16 +121,20 @@ over_new o r images now seen begun lines untold some empty follows told shown op
 
 -- ---- the boot
 
--- what the rule knows behind such lines
-abbrev pub booted_rule : List Observation → Known
-booted_rule lines = if list_any is_active_line lines then after_active (after_boot (0 ∷ [])) first_epoch else after_boot (0 ∷ [])
+-- what the rule knows after a boot whose primary became active or not
+abbrev pub booted_rule : Bool → Known
+booted_rule active = if active then after_active (after_boot (0 ∷ [])) first_epoch else after_boot (0 ∷ [])
 
--- the lines, the state behind them, and what the rule knows then
-abbrev pub Boots : Option Open → (Areas → Type 0) → List Observation → Type 0
-Boots o now lines =
-    IsWhole empty_machine (Boot 0 (0 ∷ [])) lines
-    × AsReplica o 1 now (moved empty_machine (Boot 0 (0 ∷ [])) lines)
-    × IsRuled (record no_events { rule = Some (booted_rule lines) }) (moved empty_machine (Boot 0 (0 ∷ [])) lines)
+-- the lines, the state after them, and what the rule knows then
+abbrev pub Boots : Option Open → (Areas → Type 0) → EventEffects → Type 0
+Boots o now effects =
+    IsWhole empty_machine (Boot 0 (0 ∷ [])) effects.lines
+    × AsReplica o 1 now (moved empty_machine (Boot 0 (0 ∷ [])) effects.lines)
+    × IsRuled (record no_events { rule = Some (booted_rule effects.active); order = effects.order }) (moved empty_machine (Boot 0 (0 ∷ [])) effects.lines)
+
+-- a boot with these lines, whose primary became active or not
+abbrev pub boot_effects : Bool → List Observation → EventEffects
+boot_effects active lines = record { order = 0; active = active; lines = lines }
 
 -- ---- the first appointment
 
@@ -146,9 +151,13 @@ past_first was_active = record {
   held_within = λ t e. absurd (false≢true e);
 }
 
-pub started_lines : (r : Open) (opened lines : List Observation) → IsFresh r → opened ≡ opened_lines r.shown → lines ≡ (opened ++ told_start 0 r) ++ says.Done ∷ [] → lines ≡ boot_lines
-started_lines r opened lines f is all =
-    all ∙ ap (λ ls. ls ++ says.Done ∷ []) (ap (λ ls. ls ++ told_start 0 r) (is ∙ ap opened_lines f.shown) ∙ ap (λ ls. opened_lines 0 ++ ls) (start_told r f))
+-- all of the boot
+pub started_effects : (r : Open) (opened effects : EventEffects) → IsFresh r → opened ≡ boot_effects false (opened_lines r.shown) → effects ≡ effects_started opened first_epoch r → effects ≡ boot_effects true boot_lines
+started_effects r opened effects f is all =
+    let none : r.shown + length r.ahead ≡ 0 = rw (f.shown, f.ahead) refl in
+    all ∙ (ap (λ (d : EventEffects). effects_started d first_epoch r) (is ∙ ap (λ (n : ℕ). boot_effects false (opened_lines n)) f.shown)
+    ∙ (ap (λ (n : ℕ). record (effects_started (boot_effects false (opened_lines 0)) first_epoch r) { order = max 0 n }) none
+    ∙ ap (λ ls. boot_effects true ((opened_lines 0 ++ ls) ++ says.Done ∷ [])) (start_told r f)))
 
 -- nothing goes on in the first epoch
 started_first : (r : Open) → IsFresh r → RunsWith [] (first_course true) (nothing first_epoch) (r.shown + length r.ahead) (folded r.contents (flat_map (λ c. c.ops) r.ahead)) (running [] [] [] 0 [] (first_course true))
@@ -174,9 +183,9 @@ started_first r f = (
   (refl, refl),
 )
 
-pub boots_whole : (r x : Open) (log : Log) (now : Areas → Type 0) (opened lines : List Observation) → IsFresh r → log ≡ new_log 0 → AreSame x (record (finished r first_start) { log = x.log }) → IsOpen x (log_behind r first_start log) now →
-    opened ≡ opened_lines r.shown → lines ≡ (opened ++ told_start 0 r) ++ says.Done ∷ [] → Boots (Some x) now lines
-boots_whole r x log now opened lines f new kept o is all =
+pub boots_whole : (r x : Open) (log : Log) (now : Areas → Type 0) (opened effects : EventEffects) → IsFresh r → log ≡ new_log 0 → AreSame x (record (finished r first_start) { log = x.log }) → IsOpen x (log_behind r first_start log) now →
+    opened ≡ boot_effects false (opened_lines r.shown) → effects ≡ effects_started opened first_epoch r → Boots (Some x) now effects
+boots_whole r x log now opened effects f new kept o is all =
     let n : Machine = moved empty_machine (Boot 0 (0 ∷ [])) boot_lines in
     let y : Open = record (finished r first_start) { log = x.log; front = x.front } in
     let runs = runs_alike [] (first_course true) (nothing first_epoch) x.front (r.shown + length r.ahead) (folded r.contents (flat_map (λ c. c.ops) r.ahead)) n kept.front (started_first r f) in
@@ -193,17 +202,17 @@ boots_whole r x log now opened lines f new kept o is all =
       few = let none : x.front.begins ≡ 0 = ap (λ (g : Fronted). g.begins) kept.front.same in omega (arith, none);
       recorded = λ t going e. absurd (none-some going (sym (ap (λ (g : Fronted). going_of g t) kept.front.same ∙ nothing_going first_epoch t) ∙ e));
     } in
-    subst (Boots (Some x) now) (sym (started_lines r opened lines f is all)) (
+    subst (Boots (Some x) now) (sym (started_effects r opened effects f is all)) (
       boot_serves.0,
       subst (λ (z : Open). AsReplica (Some z) 1 now n) (sym kept.same) served,
-      record { known = booted_rule boot_lines; rule = refl; appointed = (record { epoch = refl; members = refl; active = refl }, tt); current = refl; answers = refl; order = refl },
+      record { known = booted_rule true; rule = refl; appointed = (record { epoch = refl; members = refl; active = refl }, tt); current = refl; answers = refl; order = refl },
     )
 
 -- ---- its faults
 
 -- the disk failed as the replica was opened
-pub boots_unopened : (images now : Areas → Type 0) (lines : List Observation) → StandFor no_log images → Follows (KeepsOrBegins 0) images now → lines ≡ says.Fault 0 ∷ [] → Boots None now lines
-boots_unopened images now lines empty follows is =
+pub boots_unopened : (images now : Areas → Type 0) (effects : EventEffects) → StandFor no_log images → Follows (KeepsOrBegins 0) images now → effects ≡ boot_effects false (says.Fault 0 ∷ []) → Boots None now effects
+boots_unopened images now effects empty follows is =
     let sound : AreSound [] [] (first_course false) 1 images = λ c there. (no_log, empty c there, sound_all [] [] (first_course false) 1 no_log refl (inl refl) (inr refl) (omega arith)) in
     subst (Boots None now) (sym is) (
       boot_mount_faults.0,
@@ -227,25 +236,22 @@ sound_start was_active r log now new holds =
     more)
     (holds c is)
 
--- the lines before the fault are those of the opening, or all of the boot
-abbrev pub IsCut : Open → List Observation → List Observation → Type 0
-IsCut r opened before = (before ≡ opened) ⊎ (before ≡ (opened ++ told_start 0 r) ++ says.Done ∷ [])
+-- the fault is told after the opening, or after all of the boot
+abbrev pub IsBootFault : EventEffects → Type 0
+IsBootFault effects = (effects ≡ boot_effects false (mounted ++ says.Fault 0 ∷ [])) ⊎ (effects ≡ boot_effects true (boot_lines ++ says.Fault 0 ∷ []))
 
--- as the start of an epoch says so
-pub cut_of : {S : Type 0} (r : Open) (opened before : List Observation) → ((before ≡ opened) × S) ⊎ (before ≡ (opened ++ told_start 0 r) ++ says.Done ∷ []) → IsCut r opened before
-cut_of r opened before (inl first) = inl first.0
-cut_of r opened before (inr all) = inr all
+-- with the line of the fault
+abbrev pub faulted_with : EventEffects → EventEffects
+faulted_with effects = record effects { lines = effects.lines ++ says.Fault 0 ∷ [] }
 
-pub cut_lines : (r : Open) (opened before lines : List Observation) → IsFresh r → opened ≡ opened_lines r.shown → IsCut r opened before → lines ≡ before ++ says.Fault 0 ∷ [] → (lines ≡ mounted ++ says.Fault 0 ∷ []) ⊎ (lines ≡ boot_lines ++ says.Fault 0 ∷ [])
-cut_lines r opened before lines f is cut all = ⊎_elim
-    (λ (at_first : before ≡ opened). inl (all ∙ ap (λ ls. ls ++ says.Fault 0 ∷ []) (at_first ∙ (is ∙ ap opened_lines f.shown))))
-    (λ (behind_all : before ≡ (opened ++ told_start 0 r) ++ says.Done ∷ []). inr (all ∙ ap (λ ls. ls ++ says.Fault 0 ∷ []) (started_lines r opened before f is behind_all)))
-    cut
+pub boot_cut : {S : Type 0} (r : Open) (opened before : EventEffects) → IsFresh r → opened ≡ boot_effects false (opened_lines r.shown) → ((before ≡ opened) × S) ⊎ (before ≡ effects_started opened first_epoch r) → IsBootFault (faulted_with before)
+boot_cut r opened before f is (inl first) = inl (ap faulted_with (first.0 ∙ (is ∙ ap (λ (n : ℕ). boot_effects false (opened_lines n)) f.shown)))
+boot_cut r opened before f is (inr all) = inr (ap faulted_with (started_effects r opened before f is all))
 
 -- it failed as the epoch was started
-pub boots_unstarted : (r : Open) (log : Log) (now : Areas → Type 0) (lines : List Observation) → log ≡ new_log 0 → HoldsSome r first_start log now → (lines ≡ mounted ++ says.Fault 0 ∷ []) ⊎ (lines ≡ boot_lines ++ says.Fault 0 ∷ []) → Boots None now lines
-boots_unstarted r log now lines new holds cut = ⊎_elim
-    (λ (at_first : lines ≡ mounted ++ says.Fault 0 ∷ []). subst (Boots None now) (sym at_first) (
+pub boots_unstarted : (r : Open) (log : Log) (now : Areas → Type 0) (effects : EventEffects) → log ≡ new_log 0 → HoldsSome r first_start log now → IsBootFault effects → Boots None now effects
+boots_unstarted r log now effects new holds cut = ⊎_elim
+    (λ (at_first : effects ≡ boot_effects false (mounted ++ says.Fault 0 ∷ [])). subst (Boots None now) (sym at_first) (
       boot_start_faults.0,
       record {
         entries = [];
@@ -254,39 +260,33 @@ boots_unstarted r log now lines new holds cut = ⊎_elim
       },
       record { known = after_boot (0 ∷ []); rule = refl; appointed = (record { epoch = refl; members = refl; active = refl }, tt); current = refl; answers = refl; order = refl },
     ))
-    (λ (behind_all : lines ≡ boot_lines ++ says.Fault 0 ∷ []). subst (Boots None now) (sym behind_all) (
+    (λ (behind_all : effects ≡ boot_effects true (boot_lines ++ says.Fault 0 ∷ [])). subst (Boots None now) (sym behind_all) (
       boot_barrier_faults.0,
       record {
         entries = [];
         is_shut = record { acknowledged = []; txns = []; course = first_course true; shown = 0; is = boot_barrier_faults.1; ruled = course_first true; past = past_first true };
         sound = sound_start true r log now new holds;
       },
-      record { known = booted_rule boot_lines; rule = refl; appointed = (record { epoch = refl; members = refl; active = refl }, tt); current = refl; answers = refl; order = refl },
+      record { known = booted_rule true; rule = refl; appointed = (record { epoch = refl; members = refl; active = refl }, tt); current = refl; answers = refl; order = refl },
     ))
     cut
 
 -- and tells one fault
-pub one_fault : (lines : List Observation) → (lines ≡ mounted ++ says.Fault 0 ∷ []) ⊎ (lines ≡ boot_lines ++ says.Fault 0 ∷ []) → faults_in 0 lines ≡ 1
-one_fault lines cut = ⊎_elim (λ (at_first : lines ≡ mounted ++ says.Fault 0 ∷ []). ap (faults_in 0) at_first) (λ (behind_all : lines ≡ boot_lines ++ says.Fault 0 ∷ []). ap (faults_in 0) behind_all) cut
+pub one_fault : (effects : EventEffects) → IsBootFault effects → faults_in 0 effects.lines ≡ 1
+one_fault effects (inl is) = ap (λ (d : EventEffects). faults_in 0 d.lines) is
+one_fault effects (inr is) = ap (λ (d : EventEffects). faults_in 0 d.lines) is
 
 -- ---- a world that boots
 
 -- and no fault of another replica
-pub fault_of_zero : (lines : List Observation) → (lines ≡ mounted ++ says.Fault 0 ∷ []) ⊎ (lines ≡ boot_lines ++ says.Fault 0 ∷ []) → TellsZero lines
-fault_of_zero lines (inl is) q = ap (faults_in (suc q)) is ∙ fault_first q
-fault_of_zero lines (inr is) q = ap (faults_in (suc q)) is ∙ fault_first q
+pub fault_of_zero : (effects : EventEffects) → IsBootFault effects → TellsZero effects.lines
+fault_of_zero effects (inl is) q = ap (λ (d : EventEffects). faults_in (suc q) d.lines) is ∙ fault_first q
+fault_of_zero effects (inr is) q = ap (λ (d : EventEffects). faults_in (suc q) d.lines) is ∙ fault_first q
 
-pub boot_does : (k new : Kept) (images now : Areas → Type 0) (o : Option Open) (lines : List Observation) → has_booted k ≡ false → 1 ≤ new.last → new.rule ≡ Some (booted_rule lines) → new.order ≡ k.order → new.replica ≡ o → Boots o now lines → Serves k new images now (Boot 0 (0 ∷ [])) (Ok lines)
-boot_does k new images now o lines fresh some rule order is boots = λ m s.
+pub boot_does : (k new : Kept) (images now : Areas → Type 0) (o : Option Open) (effects : EventEffects) → has_booted k ≡ false → 1 ≤ new.last → new.rule ≡ Some (booted_rule effects.active) → new.order ≡ effects.order → new.replica ≡ o → Boots o now effects → Serves k new images now (Boot 0 (0 ∷ [])) (Ok effects.lines)
+boot_does k new images now o effects fresh some rule order is boots = λ m s.
     let n = new_of k images m fresh s in
-    let last : Machine = moved empty_machine (Boot 0 (0 ∷ [])) lines in
-    let ruled : IsRuled new last = ruled_as (record no_events { rule = Some (booted_rule lines) }) new last rule (order ∙ n.unordered) boots.2 in
-    subst (λ x. IsWhole x (Boot 0 (0 ∷ [])) lines × StandsFor new now (moved x (Boot 0 (0 ∷ [])) lines) × StillHolds x now) (sym n.is)
+    let last : Machine = moved empty_machine (Boot 0 (0 ∷ [])) effects.lines in
+    let ruled : IsRuled new last = ruled_as (record no_events { rule = Some (booted_rule effects.active); order = effects.order }) new last rule order boots.2 in
+    subst (λ x. IsWhole x (Boot 0 (0 ∷ [])) effects.lines × StandsFor new now (moved x (Boot 0 (0 ∷ [])) effects.lines) × StillHolds x now) (sym n.is)
     (boots.0, as_replica new now last (ap is_some rule) (subst (λ w. AsReplica w new.last now last) (sym is) (replica_later o 1 new.last now last some boots.1)) ruled, λ b. absurd (false≢true b))
-
--- what the rule knows, by what the lines tell
-pub rule_told : (lines : List Observation) → list_any is_active_line lines ≡ true → booted_rule lines ≡ after_active (after_boot (0 ∷ [])) first_epoch
-rule_told lines e = ap (λ (b : Bool). if b then after_active (after_boot (0 ∷ [])) first_epoch else after_boot (0 ∷ [])) e
-
-pub rule_untold : (lines : List Observation) → list_any is_active_line lines ≡ false → booted_rule lines ≡ after_boot (0 ∷ [])
-rule_untold lines e = ap (λ (b : Bool). if b then after_active (after_boot (0 ∷ [])) first_epoch else after_boot (0 ∷ [])) e

@@ -21,11 +21,12 @@ use Rattle.events.specs.declared.call.Call.TheVariants.{Begin, Make, OnKey, Comm
 use Rattle.order_machine.specs.declared.observation.Observation.{Observation}
 use Rattle.order_machine.specs.declared.observation.Observation.TheVariants as says
 use Rattle.events.specs.declared.answer.Reply.{Reply}
-use Rattle.order_machine.specs.Order.{Entry}
-use Rattle.order_machine.specs.Machine.{Machine}
+use Rattle.order_machine.specs.Order.{Entry, length_of}
+use Rattle.order_machine.specs.Machine.{Machine, order_of}
 use Rattle.events.specs.Answers.{plain, live_reply}
 use Rattle.events.specs.Calls.{txn_named}
 use Rattle.order_machine.specs.Legal.{IsWhole, moved}
+use Rattle.replica.specs.declared.role.Role.{Role}
 use Rattle.replica.specs.declared.role.Role.TheVariants.{Other, Primary}
 use Rattle.replica.specs.declared.step.StepEvent.TheVariants as steps
 use Rattle.replica.specs.Open.{Open, AgreesWith, commits_to}
@@ -39,14 +40,14 @@ use Rattle.std.specs.Ordering.{nat_cmp}
 use Rattle.std.proofs.lemmas.Bool.Decides.{nat_tests}
 use Rattle.txn_front.proofs.Fronts.{told_ended, called_ended}
 use Rattle.log_store.specs.Growth.{after}
-use Rattle.replica.specs.Step.{placed, logged_op, CallFits, reply, is_active, logged, logged_by, logged_call, called, answered, noted, behind, going_in, committed_by, lengthened, epoch_in}
+use Rattle.replica.specs.Step.{placed, logged_op, CallFits, reply, is_active, logged, logged_by, logged_call, called, answered, noted, behind, going_in, committed_by, lengthened, epoch_in, outcome}
 use Rattle.txn_front.specs.Front.{Fronted, Going, going_of, told, AreAlike}
 use Rattle.txn_front.specs.Front as front
 use Rattle.world.specs.Disks.{as_commit}
 use Rattle.world.specs.Course.{IsCourse, IsFence}
 use Rattle.world.specs.Running.{running, Runs, RunsWith}
 use Rattle.world.specs.Standing.{Course, standing, serving, resting}
-use Rattle.world.specs.Steps.{told_by, finished, log_once, log_behind, most_shown}
+use Rattle.world.specs.Steps.{told_by, finished, log_once, log_behind}
 use Rattle.world.specs.World.{IsOpen, Serving, Resting, AsRole, AsReplica, StillHolds}
 use Rattle.world.proofs.Aborted.{Ends, aborted_serves}
 use Rattle.world.proofs.Asked.{IsInCollection, IsAsked, asked_serves, going_told, grants_then}
@@ -55,7 +56,6 @@ use Rattle.world.proofs.Changed.{ChangesAt, runs_alike}
 use Rattle.world.proofs.Ended.{ended_serves}
 use Rattle.world.proofs.FrontChanges.{changes_alike, begins_changes, ends_changes, asked_changes, op_then, last_then}
 use Rattle.world.proofs.Plain.{told_is, committed_open, lengthened_shown, lengthened_contents, lengthened_role, lengthened_epoch, one_commit}
-use Rattle.world.proofs.Faultless.{answer_shows}
 use Rattle.world.proofs.Later.{Continues, continues_standing}
 use Rattle.world.proofs.Logged.{fence_called, latest_low}
 use Rattle.world.proofs.Sound.{BeginsWith, begins_still, sound_later, sound_txns}
@@ -78,9 +78,9 @@ pub record IsDone (r r' : Open) (call : Call) (before now : Areas → Type 0) (g
   pub lines : given ≡ told_by r (steps.Client call)
   pub fits : CallFits call
 
--- What a call does where its steps were done.
-abbrev pub IsServed : ℕ → Open → (Areas → Type 0) → Call → List Observation → Machine → Type 0
-IsServed number r now call lines m = IsWhole m (Client 0 call) lines × AsReplica (Some r) number now (moved m (Client 0 call) lines) × StillHolds m now × Continues (most_shown lines) m (moved m (Client 0 call) lines)
+-- What a call does at a replica where its steps were done, after which the replica is the second.
+abbrev pub IsServed : ℕ → Open → Open → (Areas → Type 0) → Call → List Observation → Machine → Type 0
+IsServed number r x now call lines m = IsWhole m (Client 0 call) lines × AsReplica (Some x) number now (moved m (Client 0 call) lines) × StillHolds m now × Continues (outcome r (steps.Client call)).shown m (moved m (Client 0 call) lines)
 
 -- as a role that the replica has
 pub as_primary : (number : ℕ) (x : Open) (now : Areas → Type 0) (m : Machine) (epoch : Epoch) (active : Bool) → x.role ≡ Primary epoch active → Serving number x now m → AsRole x.role number x now m
@@ -110,14 +110,14 @@ begins_all : (entries : List Entry) (log : Log) → map as_commit entries ≡ co
 begins_all entries log commits = ([], append-nil (map as_commit entries) ∙ commits)
 
 -- machines that run with the same entries and decisions
-pub continues_runs : (front new : Fronted) (shown now_shown : ℕ) (contents state : State) (m n : Machine) (most : ℕ) (h : Runs front shown contents m) → RunsWith h.entries h.course new now_shown state n → most ≡ 0 → Continues most m n
-continues_runs front new shown now_shown contents state m n most h w none =
+pub continues_runs : (front new : Fronted) (shown now_shown : ℕ) (contents state : State) (m n : Machine) (most : ℕ) (h : Runs front shown contents m) → RunsWith h.entries h.course new now_shown state n → most ≤ length h.entries → Continues most m n
+continues_runs front new shown now_shown contents state m n most h w low =
     let k = w.0 in
     let N : Machine = running h.entries h.acknowledged h.txns front.begins h.grants h.course in
     let K : List Entry → Course → Machine = λ es c. running es k.acknowledged k.txns new.begins k.grants c in
     let is : n ≡ K h.entries h.course = k.is ∙ (ap (λ es. K es k.course) w.1.0 ∙ ap (K h.entries) w.1.1) in
     subst (λ a. Continues most a n) (sym h.is) (subst (Continues most N) (sym is)
-    (continues_standing h.entries h.acknowledged k.acknowledged (serving h.course (length h.entries) front.begins h.grants) (serving h.course (length h.entries) new.begins k.grants) h.txns k.txns h.course most refl refl none))
+    (continues_standing h.entries h.acknowledged k.acknowledged (serving h.course (length h.entries) front.begins h.grants) (serving h.course (length h.entries) new.begins k.grants) h.txns k.txns h.course most refl refl low))
 
 -- ---- at a replica that rests
 
@@ -136,7 +136,21 @@ rests_logs r call off = by (txn_named call)
     by None = refl
     by (Some t) = ap (λ o. option_map_or (λ going. logged_call r.last t going call (reply r call)) o []) (cond-false (is_active r.role) (going_of r.front t) None off)
 
-pub rests_done : (last number : ℕ) (r r' : Open) (call : Call) (before now : Areas → Type 0) (lines : List Observation) (m : Machine) → last < number → r.role ≡ Other → Resting last r before m → IsDone r r' call before now lines → IsServed number r' now call lines m
+-- it shows no more than the order has
+pub rests_low : (last : ℕ) (r : Open) (images : Areas → Type 0) (m : Machine) (s : Resting last r images m) → r.shown ≤ length s.entries
+rests_low last r images m s =
+    let all = ap length s.shows in
+    let parts = length-append (commits_to r.stable.0 s.log.records) s.hidden in
+    let entries = length-map s.entries as_commit in
+    let shown = s.is_open.agrees.shown in
+    omega (arith, all, parts, entries, shown)
+
+-- and no open replica does
+pub shown_low : (role : Role) (last : ℕ) (r : Open) (images : Areas → Type 0) (m : Machine) → AsRole role last r images m → r.shown ≤ length_of (order_of m 0)
+shown_low Other last r images m s = let low = rests_low last r images m s in subst (λ (n : Machine). r.shown ≤ length_of (order_of n 0)) (sym s.rests.is) (omega (arith, low))
+shown_low (Primary epoch active) last r images m s = let all = s.runs.all_shown in subst (λ (n : Machine). r.shown ≤ length_of (order_of n 0)) (sym s.runs.is) (omega (arith, all))
+
+pub rests_done : (last number : ℕ) (r r' : Open) (call : Call) (before now : Areas → Type 0) (lines : List Observation) (m : Machine) → last < number → r.role ≡ Other → Resting last r before m → IsDone r r' call before now lines → IsServed number r r' now call lines m
 rests_done last number r r' call before now lines m later role s d =
     let off : is_active r.role ≡ false = ap is_active role in
     let quiet = told_is r call (plain (answers.NotActive r.id)) (rests_reply r call role) in
@@ -167,9 +181,11 @@ rests_done last number r r' call before now lines m later role s d =
       few = let k = s.few in omega (arith, k, later, begins);
     } in
     let holds : StillHolds n now = begins_still s.entries s.rests.acknowledged (resting s.rests.course r.shown) s.rests.txns s.rests.course now refl (of_one s.entries now s.log is_open.stands (s.sound.more, s.sound.holds)) in
-    let P : Machine → Type 0 = λ k. IsServed number r' now call (says.NotActive 0 ∷ []) k in
-    let Q : List Observation → Type 0 = λ ls. IsServed number r' now call ls m in
-    let continues : Continues 0 n (moved n (Client 0 call) (says.NotActive 0 ∷ [])) = subst (Continues 0 n) (sym serves.1.1) (continues_standing s.entries s.rests.acknowledged s.rests.acknowledged (resting s.rests.course r.shown) (resting s.rests.course r.shown) s.rests.txns serves.1.0 s.rests.course 0 refl refl refl) in
+    let P : Machine → Type 0 = λ k. IsServed number r r' now call (says.NotActive 0 ∷ []) k in
+    let Q : List Observation → Type 0 = λ ls. IsServed number r r' now call ls m in
+    let most : ℕ = (outcome r (steps.Client call)).shown in
+    let low : most ≤ length s.entries = let a = quiet.shows in let b = rests_low last r before m s in omega (arith, a, b) in
+    let continues : Continues most n (moved n (Client 0 call) (says.NotActive 0 ∷ [])) = subst (Continues most n) (sym serves.1.1) (continues_standing s.entries s.rests.acknowledged s.rests.acknowledged (resting s.rests.course r.shown) (resting s.rests.course r.shown) s.rests.txns serves.1.0 s.rests.course most refl refl low) in
     subst Q (sym given) (subst P (sym s.rests.is) (serves.0, as_other number r' now (moved n (Client 0 call) (says.NotActive 0 ∷ [])) (ap (λ (x : Open). x.role) kept ∙ role) then, holds, continues))
 
 -- ---- at one that serves
@@ -187,7 +203,7 @@ AreRecorded f = (t : TxnId) (g : Going) → going_of f t ≡ Some g → (g.last.
 
 -- a call that is answered
 told_done : (last number : ℕ) (r r' : Open) (call : Call) (before now : Areas → Type 0) (lines : List Observation) (given : Reply) (m : Machine) (epoch : Epoch) (active : Bool) → last < number → r.role ≡ Primary epoch active → (s : Serving last r before m) → IsDone r r' call before now lines → reply r call ≡ Some given →
-    IsWhole m (Client 0 call) (line_of_answer given.answer ∷ []) → RunsWith s.runs.entries s.runs.course r'.front r.shown r.contents (moved m (Client 0 call) (line_of_answer given.answer ∷ [])) → KeepsAll r (called r call) → committed_by r (steps.Client call) ≡ [] → r'.front.begins ≤ number → AreRecorded r'.front → IsServed number r' now call lines m
+    IsWhole m (Client 0 call) (line_of_answer given.answer ∷ []) → RunsWith s.runs.entries s.runs.course r'.front r.shown r.contents (moved m (Client 0 call) (line_of_answer given.answer ∷ [])) → KeepsAll r (called r call) → committed_by r (steps.Client call) ≡ [] → r'.front.begins ≤ number → AreRecorded r'.front → IsServed number r r' now call lines m
 told_done last number r r' call before now lines given m epoch active later role s d says_so whole runs keeps no_commit few recorded =
     let event = steps.Client call in
     let quiet = told_is r call given says_so in
@@ -213,8 +229,8 @@ told_done last number r r' call before now lines given m epoch active later role
       few = few;
       recorded = recorded;
     } in
-    let Q : List Observation → Type 0 = λ ls. IsServed number r' now call ls m in
-    subst Q (sym (d.lines ∙ quiet.lines)) (whole, as_primary number r' now n epoch active (ap (λ (x : Open). x.role) kept ∙ (keeps.role ∙ role)) then, holds_from last r before now m log1 s is_open.stands (begins_all s.runs.entries log1 commits), continues_runs r.front r'.front r.shown r'.shown r.contents r'.contents m n (most_shown (line_of_answer given.answer ∷ [])) s.runs runs_now (answer_shows given.answer))
+    let Q : List Observation → Type 0 = λ ls. IsServed number r r' now call ls m in
+    subst Q (sym (d.lines ∙ quiet.lines)) (whole, as_primary number r' now n epoch active (ap (λ (x : Open). x.role) kept ∙ (keeps.role ∙ role)) then, holds_from last r before now m log1 s is_open.stands (begins_all s.runs.entries log1 commits), continues_runs r.front r'.front r.shown r'.shown r.contents r'.contents m n (outcome r event).shown s.runs runs_now (let a = quiet.shows in let b = s.runs.all_shown in omega (arith, a, b)))
 
 -- what goes on is recorded as before, but for one transaction
 pub recorded_at : (f f' : Fronted) (begins : ℕ) (t : TxnId) (then : Option Going) (grants : _) → ChangesAt f f' begins t then grants → AreRecorded f → ((g : Going) → then ≡ Some g → (g.last.0 == 0) ≡ (length g.ops == 0)) → AreRecorded f'
@@ -226,7 +242,7 @@ recorded_at f f' begins t then grants c old new u g is = by (is_txn u t) (sym (c
 
 -- ---- a begin
 
-pub begin_done : (last number : ℕ) (r r' : Open) (before now : Areas → Type 0) (lines : List Observation) (m : Machine) (epoch : Epoch) (active : Bool) → last < number → r.role ≡ Primary epoch active → Serving last r before m → IsDone r r' Begin before now lines → IsServed number r' now Begin lines m
+pub begin_done : (last number : ℕ) (r r' : Open) (before now : Areas → Type 0) (lines : List Observation) (m : Machine) (epoch : Epoch) (active : Bool) → last < number → r.role ≡ Primary epoch active → Serving last r before m → IsDone r r' Begin before now lines → IsServed number r r' now Begin lines m
 begin_done last number r r' before now lines m epoch active later role s d =
     let on : is_active r.role ≡ true = primary_active r s.log epoch active role s.is_open.agrees in
     let says_so : reply r Begin ≡ Some (plain (answers.Txn (next r.front))) = active_reply r Begin on in
@@ -273,7 +289,7 @@ none_commits r (Commit u) t on named none =
     ap (λ o. option_map_or (λ (going : Going). one_commit u going) o []) (cond-true (is_active r.role) (going_of r.front u) None on ∙ (ap (going_of r.front) (same_Some u t named) ∙ none))
 none_commits r (Abort u) t on named none = refl
 
-pub ended_done : (last number : ℕ) (r r' : Open) (call : Call) (t : TxnId) (before now : Areas → Type 0) (lines : List Observation) (m : Machine) (epoch : Epoch) (active : Bool) → last < number → r.role ≡ Primary epoch active → txn_named call ≡ Some t → going_of r.front t ≡ None → Serving last r before m → IsDone r r' call before now lines → IsServed number r' now call lines m
+pub ended_done : (last number : ℕ) (r r' : Open) (call : Call) (t : TxnId) (before now : Areas → Type 0) (lines : List Observation) (m : Machine) (epoch : Epoch) (active : Bool) → last < number → r.role ≡ Primary epoch active → txn_named call ≡ Some t → going_of r.front t ≡ None → Serving last r before m → IsDone r r' call before now lines → IsServed number r r' now call lines m
 ended_done last number r r' call t before now lines m epoch active later role named none s d =
     let on : is_active r.role ≡ true = primary_active r s.log epoch active role s.is_open.agrees in
     let says_so : reply r call ≡ Some (plain (answers.Ended t)) = active_reply r call on ∙ told_ended r.front r.contents call t named none in
@@ -344,7 +360,7 @@ recorded_op lasts t g (Some op) old = by (g.last.0 == 0)
     by true = let e : ((lasts.0 + 2) == 0) ≡ false = grind (arith, nat_tests) in e ∙ some_length g.ops
     by false = let e : ((lasts.0 + 1) == 0) ≡ false = grind (arith, nat_tests) in e ∙ some_length g.ops
 
-pub asked_done : (last number : ℕ) (r r' : Open) (call : Call) (t : TxnId) (g : Going) (given : Reply) (before now : Areas → Type 0) (lines : List Observation) (m : Machine) (epoch : Epoch) (active : Bool) → last < number → r.role ≡ Primary epoch active → IsInCollection call → txn_named call ≡ Some t → going_of r.front t ≡ Some g → reply r call ≡ Some given → Serving last r before m → IsDone r r' call before now lines → IsServed number r' now call lines m
+pub asked_done : (last number : ℕ) (r r' : Open) (call : Call) (t : TxnId) (g : Going) (given : Reply) (before now : Areas → Type 0) (lines : List Observation) (m : Machine) (epoch : Epoch) (active : Bool) → last < number → r.role ≡ Primary epoch active → IsInCollection call → txn_named call ≡ Some t → going_of r.front t ≡ Some g → reply r call ≡ Some given → Serving last r before m → IsDone r r' call before now lines → IsServed number r r' now call lines m
 asked_done last number r r' call t g given before now lines m epoch active later role in_one named is says_so s d =
     let on : is_active r.role ≡ true = primary_active r s.log epoch active role s.is_open.agrees in
     let count = length (logged_by r call) in
@@ -369,7 +385,7 @@ asked_done last number r r' call t g given before now lines m epoch active later
 
 -- ---- an abort
 
-pub aborted_done : (last number : ℕ) (r r' : Open) (t : TxnId) (g : Going) (before now : Areas → Type 0) (lines : List Observation) (m : Machine) (epoch : Epoch) (active : Bool) → last < number → r.role ≡ Primary epoch active → going_of r.front t ≡ Some g → Serving last r before m → IsDone r r' (Abort t) before now lines → IsServed number r' now (Abort t) lines m
+pub aborted_done : (last number : ℕ) (r r' : Open) (t : TxnId) (g : Going) (before now : Areas → Type 0) (lines : List Observation) (m : Machine) (epoch : Epoch) (active : Bool) → last < number → r.role ≡ Primary epoch active → going_of r.front t ≡ Some g → Serving last r before m → IsDone r r' (Abort t) before now lines → IsServed number r r' now (Abort t) lines m
 aborted_done last number r r' t g before now lines m epoch active later role is s d =
     let on : is_active r.role ≡ true = primary_active r s.log epoch active role s.is_open.agrees in
     let says_so : reply r (Abort t) ≡ Some (plain answers.Done) = active_reply r (Abort t) on ∙ going_told r.front r.contents (Abort t) t g refl is in

@@ -6,24 +6,24 @@ use Rattle.events.specs.declared.event.Event.TheVariants.{Client}
 use Rattle.events.specs.declared.call.Call.{Call}
 use Rattle.order_machine.specs.declared.observation.Observation.{Observation}
 use Rattle.order_machine.specs.declared.observation.Observation.TheVariants as says
-use Rattle.order_machine.specs.Machine.{Machine, empty_machine}
+use Rattle.order_machine.specs.Machine.{Machine}
 use Rattle.order_machine.specs.Legal.{IsWhole, moved}
 use Rattle.replica.specs.declared.role.Role.{Role}
 use Rattle.replica.specs.declared.role.Role.TheVariants.{Other, Primary}
 use Rattle.replica.specs.declared.step.StepEvent.TheVariants as steps
 use Rattle.replica.specs.Open.{Open}
-use Rattle.replica.specs.Step.{CallFits}
+use Rattle.replica.specs.Step.{CallFits, outcome}
 use Rattle.world.specs.declared.error.WorldError.{WorldError}
 use Rattle.world.specs.declared.error.WorldError.TheVariants as errors
 use Rattle.world.specs.Kept.{Kept, has_booted}
 use Rattle.world.specs.Standing.{standing, shut}
-use Rattle.world.specs.Steps.{most_shown, shown_by, IsCutOff, HoldsSome}
-use Rattle.world.specs.World.{StandsFor, Serves, IsNew, IsRuled, IsOpen, Closed, AsRole, AsReplica, StillHolds}
+use Rattle.world.specs.declared.effects.EventEffects.{EventEffects}
+use Rattle.world.specs.Steps.{no_effects, IsCutOff, HoldsSome}
+use Rattle.world.specs.World.{StandsFor, Serves, IsRuled, IsOpen, Closed, AsRole, AsReplica, StillHolds}
 use Rattle.world.proofs.Calls.{IsDone}
 use Rattle.world.proofs.CommitCalls.{call_done}
 use Rattle.world.proofs.CutOff.{call_cut, call_short}
 use Rattle.world.proofs.Later.{new_of, replica_of, ruled_of, as_replica, as_new, closed_of, closed_stands, ruled_on, ruled_still, Continues, continues_standing}
-use Rattle.world.proofs.Refusals.{refused_serves}
 use Rattle.world.proofs.Sound.{sound_later, sound_txns}
 use Rattle.world.proofs.Still.{stands_still}
 use Rattle.world.proofs.Unserved.{down_serves}
@@ -33,41 +33,34 @@ use Rattle.events.specs.declared.answer.Answer.TheVariants as answers
 abbrev pub ServesCall : Kept → Kept → (Areas → Type 0) → (Areas → Type 0) → Call → List Observation → Type 0
 ServesCall old new before now call lines = (m : Machine) → StandsFor old before m → IsWhole m (Client 0 call) lines × StandsFor new now (moved m (Client 0 call) lines) × StillHolds m now
 
--- behind an event with these lines
-abbrev pub kept : Kept → ℕ → Option Open → List Observation → Kept
-kept k number replica lines = record k { last = number; order = max k.order (most_shown lines); replica = replica }
+-- after an event that left the order so long
+abbrev pub kept : Kept → ℕ → Option Open → ℕ → Kept
+kept k number replica order = record k { last = number; order = order; replica = replica }
 
 -- ---- a booted world
 
 stands_open : (k : Kept) (r : Open) (images : Areas → Type 0) (m : Machine) → has_booted k ≡ true → k.replica ≡ Some r → StandsFor k images m → AsReplica (Some r) k.last images m
 stands_open k r images m booted there s = subst (λ o. AsReplica o k.last images m) there (replica_of k images m booted s)
 
-pub client_done : (k : Kept) (number : ℕ) (r r' : Open) (call : Call) (before now : Areas → Type 0) (lines : List Observation) → has_booted k ≡ true → k.replica ≡ Some r → k.last < number → IsDone r r' call before now lines → ServesCall k (kept k number (Some r') lines) before now call lines
+pub client_done : (k : Kept) (number : ℕ) (r r' : Open) (call : Call) (before now : Areas → Type 0) (lines : List Observation) → has_booted k ≡ true → k.replica ≡ Some r → k.last < number → IsDone r r' call before now lines → ServesCall k (kept k number (Some r') (max k.order (outcome r (steps.Client call)).shown)) before now call lines
 client_done k number r r' call before now lines booted there later d m s =
     let done = call_done k.last number r r' call before now lines m later (stands_open k r before m booted there s) d in
-    let new : Kept = kept k number (Some r') lines in
+    let most : ℕ = (outcome r (steps.Client call)).shown in
+    let new : Kept = kept k number (Some r') (max k.order most) in
     let n : Machine = moved m (Client 0 call) lines in
-    (done.0, as_replica new now n booted done.1 (ruled_on k new m n (most_shown lines) refl refl done.3 (ruled_of k before m booted s)), done.2)
+    (done.0, as_replica new now n booted done.1 (ruled_on k new m n most refl refl done.3 (ruled_of k before m booted s)), done.2)
 
--- a line that tells a fault shows nothing
-pub most_faulted : (lines : List Observation) → most_shown (lines ++ says.Fault 0 ∷ []) ≡ most_shown lines
-most_faulted [] = refl
-most_faulted (line ∷ lines) = ap (max (shown_by line)) (most_faulted lines)
-
-pub client_cut : (k : Kept) (number : ℕ) (r : Open) (call : Call) (before now : Areas → Type 0) (lines given : List Observation) → has_booted k ≡ true → k.replica ≡ Some r → k.last < number → CallFits call → ((log : Log) → IsOpen r log before → IsCutOff r (steps.Client call) log [] lines now) → given ≡ lines ++ says.Fault 0 ∷ [] → ServesCall k (kept k number None lines) before now call given
-client_cut k number r call before now lines given booted there later fits cut is m s =
-    let done = call_cut k.last number r call before now lines m later fits (stands_open k r before m booted there s) cut in
-    let new : Kept = kept k number None lines in
-    let told : List Observation = lines ++ says.Fault 0 ∷ [] in
-    let n : Machine = moved m (Client 0 call) told in
-    let ruled : IsRuled new n = ruled_on k new m n (most_shown told) refl (ap (max k.order) (sym (most_faulted lines))) done.3 (ruled_of k before m booted s) in
-    let P : List Observation → Type 0 = λ ls. IsWhole m (Client 0 call) ls × StandsFor new now (moved m (Client 0 call) ls) × StillHolds m now in
-    subst P (sym is) (done.0, as_replica new now n booted done.1 ruled, done.2)
+pub client_cut : (k : Kept) (number : ℕ) (r : Open) (call : Call) (before now : Areas → Type 0) (effects : EventEffects) → has_booted k ≡ true → k.replica ≡ Some r → k.last < number → CallFits call → ((log : Log) → IsOpen r log before → IsCutOff r (steps.Client call) log (no_effects k.order) effects now) → ServesCall k (kept k number None effects.order) before now call (effects.lines ++ says.Fault 0 ∷ [])
+client_cut k number r call before now effects booted there later fits cut m s =
+    let done = call_cut k.last number r call before now k.order effects m later fits (stands_open k r before m booted there s) cut in
+    let new : Kept = kept k number None effects.order in
+    let n : Machine = moved m (Client 0 call) (effects.lines ++ says.Fault 0 ∷ []) in
+    (done.0, as_replica new now n booted done.1 (ruled_on k new m n done.3.0 refl done.3.1 done.3.2 (ruled_of k before m booted s)), done.2)
 
 -- also where the line of the fault found no memory
-pub client_cut_still : (k : Kept) (number : ℕ) (r : Open) (call : Call) (before now : Areas → Type 0) (lines : List Observation) → has_booted k ≡ true → k.replica ≡ Some r → k.last < number → CallFits call → ((log : Log) → IsOpen r log before → IsCutOff r (steps.Client call) log [] lines now) → (m : Machine) → StandsFor k before m → StillHolds m now
-client_cut_still k number r call before now lines booted there later fits cut m s =
-    (call_cut k.last number r call before now lines m later fits (stands_open k r before m booted there s) cut).2
+pub client_cut_still : (k : Kept) (number : ℕ) (r : Open) (call : Call) (before now : Areas → Type 0) (effects : EventEffects) → has_booted k ≡ true → k.replica ≡ Some r → k.last < number → CallFits call → ((log : Log) → IsOpen r log before → IsCutOff r (steps.Client call) log (no_effects k.order) effects now) → (m : Machine) → StandsFor k before m → StillHolds m now
+client_cut_still k number r call before now effects booted there later fits cut m s =
+    (call_cut k.last number r call before now k.order effects m later fits (stands_open k r before m booted there s) cut).2
 
 pub client_short : (k : Kept) (r : Open) (call : Call) (before now : Areas → Type 0) → has_booted k ≡ true → k.replica ≡ Some r → CallFits call → ((log : Log) → IsOpen r log before → HoldsSome r (steps.Client call) log now) → (m : Machine) → StandsFor k before m → StillHolds m now
 client_short k r call before now booted there fits some m s = call_short k.last r call before now m fits (stands_open k r before m booted there s) some
@@ -94,22 +87,12 @@ client_down k number call images lines booted none later is m s =
       };
       sound = λ a held. let l = c.sound a held in (l.0, l.1, sound_later c.entries serves.1.0 shut_there.course k.last number l.0 (omega (arith, later)) (sound_txns c.entries shut_there.txns serves.1.0 shut_there.course k.last l.0 (serves.1.2.1 c.entries) l.2));
     } in
-    let continues : Continues 0 n (moved n (Client 0 call) (says.Down 0 ∷ [])) = subst (Continues 0 n) (sym serves.1.1) (continues_standing c.entries shut_there.acknowledged shut_there.acknowledged (shut shut_there.course shut_there.shown) (shut shut_there.course shut_there.shown) shut_there.txns serves.1.0 shut_there.course 0 refl refl refl) in
+    let continues : Continues 0 n (moved n (Client 0 call) (says.Down 0 ∷ [])) = subst (Continues 0 n) (sym serves.1.1) (continues_standing c.entries shut_there.acknowledged shut_there.acknowledged (shut shut_there.course shut_there.shown) (shut shut_there.course shut_there.shown) shut_there.txns serves.1.0 shut_there.course 0 refl refl (omega arith)) in
     let P : Machine → Type 0 = λ at. IsWhole at (Client 0 call) (says.Down 0 ∷ []) × Closed number images (moved at (Client 0 call) (says.Down 0 ∷ [])) × Continues 0 at (moved at (Client 0 call) (says.Down 0 ∷ [])) in
     let all : P m = subst P (sym shut_there.is) (serves.0, then, continues) in
     let stands : StandsFor new images (moved m (Client 0 call) (says.Down 0 ∷ [])) = closed_stands new images (moved m (Client 0 call) (says.Down 0 ∷ [])) booted none all.1 (ruled_still k new m (moved m (Client 0 call) (says.Down 0 ∷ [])) refl refl all.2 (ruled_of k images m booted s)) in
     let Q : List Observation → Type 0 = λ ls. IsWhole m (Client 0 call) ls × StandsFor new images (moved m (Client 0 call) ls) × StillHolds m images in
     subst Q (sym is) (all.0, stands, stands_still k images m s)
-
-pub client_new : (k : Kept) (number : ℕ) (call : Call) (images : Areas → Type 0) (lines : List Observation) → has_booted k ≡ false → lines ≡ says.Refused 9 ∷ [] → ServesCall k (record k { last = number }) images images call lines
-client_new k number call images lines booted is m s =
-    let new = new_of k images m booted s in
-    let serves = refused_serves empty_machine (Client 0 call) (answers.Refused 9) refl in
-    let P : Machine → Type 0 = λ at. IsWhole at (Client 0 call) (says.Refused 9 ∷ []) × (moved at (Client 0 call) (says.Refused 9 ∷ []) ≡ empty_machine) in
-    let all : P m = subst P (sym new.is) (serves.0, serves.1) in
-    let then : IsNew (record k { last = number }) images (moved m (Client 0 call) (says.Refused 9 ∷ [])) = record { is = all.1; closed = new.closed; unordered = new.unordered; empty = new.empty } in
-    let Q : List Observation → Type 0 = λ ls. IsWhole m (Client 0 call) ls × StandsFor (record k { last = number }) images (moved m (Client 0 call) ls) × StillHolds m images in
-    subst Q (sym is) (all.0, as_new (record k { last = number }) images (moved m (Client 0 call) (says.Refused 9 ∷ [])) booted then, stands_still k images m s)
 
 -- ---- what the steps of a call need
 

@@ -27,14 +27,14 @@ use Rattle.replica.specs.declared.role.Role.{Role}
 use Rattle.replica.specs.declared.role.Role.TheVariants.{Other, Primary}
 use Rattle.replica.specs.declared.step.StepEvent.TheVariants as steps
 use Rattle.replica.specs.Open.{Open, AgreesWith, shown_in}
-use Rattle.replica.specs.Step.{MayStep, reply, is_active, logged_by, lengthened, stepped}
+use Rattle.replica.specs.Step.{MayStep, reply, is_active, logged_by, lengthened, outcome, stepped}
 use Rattle.txn_front.specs.Front.{Fronted, Going, going_of, told, txn_at, AreAlike}
 use Rattle.txn_front.specs.Front as front
 use Rattle.world.specs.Disks.{as_commit}
 use Rattle.world.specs.Course.{IsCourse, IsFence}
 use Rattle.world.specs.Running.{running, Runs, RunsWith}
 use Rattle.world.specs.Standing.{Course}
-use Rattle.world.specs.Steps.{finished, log_once, log_twice, most_shown}
+use Rattle.world.specs.Steps.{finished, log_once, log_twice}
 use Rattle.world.specs.World.{IsOpen, Serving, AsRole, AsReplica}
 use Rattle.world.proofs.Aborted.{Ends}
 use Rattle.world.proofs.Asked.{IsInCollection, going_told}
@@ -92,22 +92,22 @@ pub begins_less : (entries : List Entry) (e : Entry) (log : Log) (commits : List
 begins_less entries e log commits same more = (as_commit e ∷ [], ap (λ cs. cs ++ as_commit e ∷ []) same ∙ sym more)
 
 -- the order has grown by one, which is shown
-pub continues_commit : (front new : Fronted) (shown now_shown : ℕ) (contents state : State) (m n : Machine) (t : TxnId) (g : Going) (h : Runs front shown contents m) → RunsWith (with_entry h.entries t g) h.course new now_shown state n → Continues (most_shown (lines_of t g shown)) m n
-continues_commit front new shown now_shown contents state m n t g h w =
+pub continues_commit : (front new : Fronted) (shown now_shown most : ℕ) (contents state : State) (m n : Machine) (t : TxnId) (g : Going) (h : Runs front shown contents m) → RunsWith (with_entry h.entries t g) h.course new now_shown state n → most ≡ shown + 1 → Continues most m n
+continues_commit front new shown now_shown most contents state m n t g h w one_more =
     let k = w.0 in
     let es : List Entry = with_entry h.entries t g in
     let M : Machine = running h.entries h.acknowledged h.txns front.begins h.grants h.course in
     let K : List Entry → Course → Machine = λ es c. running es k.acknowledged k.txns new.begins k.grants c in
     let is : n ≡ K es h.course = k.is ∙ (ap (λ es. K es k.course) w.1.0 ∙ ap (K es) w.1.1) in
-    let count : 0 + length es ≡ max (0 + length h.entries) (most_shown (lines_of t g shown)) = let a = length-append h.entries (entry_of t g ∷ []) in let b = h.all_shown in grind (arith, a, b) in
-    let same : Continues (most_shown (lines_of t g shown)) M (K es h.course) = record { appointments = refl; config = refl; answers = refl; order = count } in
-    subst (λ a. Continues (most_shown (lines_of t g shown)) a n) (sym h.is) (subst (Continues (most_shown (lines_of t g shown)) M) (sym is) same)
+    let count : 0 + length es ≡ max (0 + length h.entries) most = let a = length-append h.entries (entry_of t g ∷ []) in let b = h.all_shown in grind (arith, a, b, one_more) in
+    let same : Continues most M (K es h.course) = record { appointments = refl; config = refl; answers = refl; order = count } in
+    subst (λ a. Continues most a n) (sym h.is) (subst (Continues most M) (sym is) same)
 
 -- the replica behind both steps
 abbrev last_open : (r : Open) → TxnId → Going → Open
 last_open r t g = let x : Open = committed_open (length (logged_by r (Commit t))) t g r in lengthened 1 x.epoch x
 
-commit_done : (last number : ℕ) (r r' : Open) (t : TxnId) (g : Going) (before now : Areas → Type 0) (lines : List Observation) (m : Machine) (epoch : Epoch) (active : Bool) → last < number → r.role ≡ Primary epoch active → going_of r.front t ≡ Some g → Serving last r before m → IsDone r r' (Commit t) before now lines → IsServed number r' now (Commit t) lines m
+commit_done : (last number : ℕ) (r r' : Open) (t : TxnId) (g : Going) (before now : Areas → Type 0) (lines : List Observation) (m : Machine) (epoch : Epoch) (active : Bool) → last < number → r.role ≡ Primary epoch active → going_of r.front t ≡ Some g → Serving last r before m → IsDone r r' (Commit t) before now lines → IsServed number r r' now (Commit t) lines m
 commit_done last number r r' t g before now lines m epoch active later role is s d =
     let on : is_active r.role ≡ true = primary_active r s.log epoch active role s.is_open.agrees in
     let event = steps.Client (Commit t) in
@@ -133,7 +133,7 @@ commit_done last number r r' t g before now lines m epoch active later role is s
     let x : Open = committed_open count t g r in
     let fence_once : IsFence s.runs.course x.fence = fence_lengthened s.runs.course count r s.fence low in
     let fence : IsFence s.runs.course r'.fence = subst (λ (y : Open). IsFence s.runs.course y.fence) (sym kept) (fence_lengthened s.runs.course 1 x fence_once (latest_low s.runs.course x.epoch (lengthened_epoch count r ∙ s.epoch))) in
-    let continues : Continues (most_shown given) m n = continues_commit r.front r'.front r.shown r'.shown r.contents r'.contents m n t g s.runs runs_now in
+    let continues : Continues (outcome r event).shown m n = continues_commit r.front r'.front r.shown r'.shown (outcome r event).shown r.contents r'.contents m n t g s.runs runs_now c.committed.shows in
     let done : Serving number r' now n = record {
       runs = runs_now.0;
       ruled = subst IsCourse (sym runs_now.1.1) s.ruled;
@@ -146,7 +146,7 @@ commit_done last number r r' t g before now lines m epoch active later role is s
       few = let k = s.few in let b = ends.begins_now in omega (arith, k, b, later);
       recorded = recorded_at r.front r'.front r.front.begins t None _ ends s.recorded (λ h e. absurd (none-some h e));
     } in
-    let Q : List Observation → Type 0 = λ ls. IsServed number r' now (Commit t) ls m in
+    let Q : List Observation → Type 0 = λ ls. IsServed number r r' now (Commit t) ls m in
     subst Q (sym lines_are)
     (serves.0, as_primary number r' now n epoch active (ap (λ (x : Open). x.role) kept ∙ (lengthened_role count r ∙ role)) done, holds_from last r before now m log2 s is_open.stands (begins_less s.runs.entries (entry_of t g) log2 (commits_in s.log.records) s.commits c.twice), continues)
 
@@ -179,28 +179,28 @@ has_reply r call in_one None e = absurd (by_role (is_active r.role) e)
 
 -- what a call of a transaction that goes on does
 abbrev GoingDone : Call → TxnId → Type 1
-GoingDone call t = (last number : ℕ) (r r' : Open) (g : Going) (before now : Areas → Type 0) (lines : List Observation) (m : Machine) (epoch : Epoch) (active : Bool) → last < number → r.role ≡ Primary epoch active → going_of r.front t ≡ Some g → Serving last r before m → IsDone r r' call before now lines → IsServed number r' now call lines m
+GoingDone call t = (last number : ℕ) (r r' : Open) (g : Going) (before now : Areas → Type 0) (lines : List Observation) (m : Machine) (epoch : Epoch) (active : Bool) → last < number → r.role ≡ Primary epoch active → going_of r.front t ≡ Some g → Serving last r before m → IsDone r r' call before now lines → IsServed number r r' now call lines m
 
 in_collection : (call : Call) (t : TxnId) → IsInCollection call → txn_named call ≡ Some t → GoingDone call t
 in_collection call t in_one named last number r r' g before now lines m epoch active later role is s d =
     let given = has_reply r call in_one (reply r call) refl in
     asked_done last number r r' call t g given.0 before now lines m epoch active later role in_one named is given.1 s d
 
-named_done : (call : Call) (t : TxnId) → txn_named call ≡ Some t → GoingDone call t → (last number : ℕ) (r r' : Open) (before now : Areas → Type 0) (lines : List Observation) (m : Machine) (epoch : Epoch) (active : Bool) → last < number → r.role ≡ Primary epoch active → Serving last r before m → IsDone r r' call before now lines → (o : Option Going) → going_of r.front t ≡ o → IsServed number r' now call lines m
+named_done : (call : Call) (t : TxnId) → txn_named call ≡ Some t → GoingDone call t → (last number : ℕ) (r r' : Open) (before now : Areas → Type 0) (lines : List Observation) (m : Machine) (epoch : Epoch) (active : Bool) → last < number → r.role ≡ Primary epoch active → Serving last r before m → IsDone r r' call before now lines → (o : Option Going) → going_of r.front t ≡ o → IsServed number r r' now call lines m
 named_done call t named going last number r r' before now lines m epoch active later role s d None none = ended_done last number r r' call t before now lines m epoch active later role named none s d
 named_done call t named going last number r r' before now lines m epoch active later role s d (Some g) is = going last number r r' g before now lines m epoch active later role is s d
 
-primary_done : (last number : ℕ) (r r' : Open) (call : Call) (before now : Areas → Type 0) (lines : List Observation) (m : Machine) (epoch : Epoch) (active : Bool) → last < number → r.role ≡ Primary epoch active → Serving last r before m → IsDone r r' call before now lines → IsServed number r' now call lines m
+primary_done : (last number : ℕ) (r r' : Open) (call : Call) (before now : Areas → Type 0) (lines : List Observation) (m : Machine) (epoch : Epoch) (active : Bool) → last < number → r.role ≡ Primary epoch active → Serving last r before m → IsDone r r' call before now lines → IsServed number r r' now call lines m
 primary_done last number r r' Begin before now lines m epoch active later role s d = begin_done last number r r' before now lines m epoch active later role s d
 primary_done last number r r' (Make t name kind) before now lines m epoch active later role s d = let call : Call = Make t name kind in named_done call t refl (in_collection call t tt refl) last number r r' before now lines m epoch active later role s d (going_of r.front t) refl
 primary_done last number r r' (OnKey t name key asked) before now lines m epoch active later role s d = let call : Call = OnKey t name key asked in named_done call t refl (in_collection call t tt refl) last number r r' before now lines m epoch active later role s d (going_of r.front t) refl
 primary_done last number r r' (Commit t) before now lines m epoch active later role s d = named_done (Commit t) t refl (λ l n a b g. commit_done l n a b t g) last number r r' before now lines m epoch active later role s d (going_of r.front t) refl
 primary_done last number r r' (Abort t) before now lines m epoch active later role s d = named_done (Abort t) t refl (λ l n a b g. aborted_done l n a b t g) last number r r' before now lines m epoch active later role s d (going_of r.front t) refl
 
-role_done : (last number : ℕ) (r r' : Open) (call : Call) (before now : Areas → Type 0) (lines : List Observation) (m : Machine) → last < number → (role : Role) → r.role ≡ role → AsRole role last r before m → IsDone r r' call before now lines → IsServed number r' now call lines m
+role_done : (last number : ℕ) (r r' : Open) (call : Call) (before now : Areas → Type 0) (lines : List Observation) (m : Machine) → last < number → (role : Role) → r.role ≡ role → AsRole role last r before m → IsDone r r' call before now lines → IsServed number r r' now call lines m
 role_done last number r r' call before now lines m later Other e s d = rests_done last number r r' call before now lines m later e s d
 role_done last number r r' call before now lines m later (Primary epoch active) e s d = primary_done last number r r' call before now lines m epoch active later e s d
 
 -- A call whose steps were done serves at each state.
-pub call_done : (last number : ℕ) (r r' : Open) (call : Call) (before now : Areas → Type 0) (lines : List Observation) (m : Machine) → last < number → AsReplica (Some r) last before m → IsDone r r' call before now lines → IsServed number r' now call lines m
+pub call_done : (last number : ℕ) (r r' : Open) (call : Call) (before now : Areas → Type 0) (lines : List Observation) (m : Machine) → last < number → AsReplica (Some r) last before m → IsDone r r' call before now lines → IsServed number r r' now call lines m
 call_done last number r r' call before now lines m later s d = role_done last number r r' call before now lines m later r.role refl s d

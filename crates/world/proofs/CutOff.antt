@@ -33,14 +33,14 @@ use Rattle.replica.specs.declared.step.StepEvent.{StepEvent}
 use Rattle.replica.specs.declared.step.StepEvent.TheVariants as steps
 use Rattle.replica.specs.Open.{Open, AgreesWith, stable_in}
 use Rattle.log_records.specs.declared.record.Record.TheVariants as recs
-use Rattle.replica.specs.Step.{placed, logged_op, logged_abort, CallFits, MayStep, reply, is_active, logged, logged_by, called, answered, committed_by, stepped, block}
+use Rattle.replica.specs.Step.{placed, logged_op, logged_abort, CallFits, MayStep, reply, is_active, logged, logged_by, called, answered, committed_by, outcome, stepped, block}
 use Rattle.txn_front.specs.Front.{Fronted, Going, going_of, told}
 use Rattle.txn_front.specs.Front as front
 use Rattle.world.specs.Disks.{as_commit}
 use Rattle.world.specs.Course.{IsCourse, MayFollow, IsFence, IsLogged}
 use Rattle.world.specs.Running.{Runs}
 use Rattle.world.specs.Standing.{Course, standing, serving, resting, shut}
-use Rattle.world.specs.Steps.{most_shown, told_by, is_due, log_once, log_twice, IsCutOff, HoldsSome}
+use Rattle.world.specs.Steps.{no_effects, effects_after, told_by, is_due, log_once, log_twice, IsCutOff, HoldsSome}
 use Rattle.world.specs.World.{IsOpen, IsSound, IsShutWith, Serving, Closed, AsRole, AsReplica, StillHolds}
 use Rattle.world.proofs.Aborted.{Ends}
 use Rattle.world.proofs.Askings.{past_asked, commit_follows}
@@ -48,10 +48,11 @@ use Rattle.world.proofs.Asked.{IsInCollection, going_told}
 use Rattle.world.proofs.Begin.{next}
 use Rattle.world.proofs.Commit.{entry_of, with_entry, lines_of, commit_faults}
 use Rattle.world.proofs.FrontChanges.{ends_changes}
-use Rattle.world.proofs.Plain.{told_is, committed_open, lengthened_role}
+use Rattle.world.proofs.Plain.{told_is, committed_is, committed_open, lengthened_role}
 use Rattle.world.proofs.Calls.{primary_active, active_reply, longer, rests_reply, rests_logs, none_logs, collection_logs, collection_commits}
 use Rattle.world.proofs.CommitCalls.{IsCommit, commit_is, entries_more, begins_less, has_reply}
-use Rattle.world.proofs.Later.{Continues, continues_standing}
+use Rattle.world.specs.declared.effects.EventEffects.{EventEffects}
+use Rattle.world.proofs.Later.{Continues, continues_standing, max_none}
 use Rattle.world.proofs.Logged.{fence_called, fence_lengthened, epoch_called, latest_low, logged_fence, logged_latest}
 use Rattle.world.proofs.Roleless.{serving_logged}
 use Rattle.world.proofs.Sound.{BeginsWith, begins_still, sound_whole}
@@ -104,7 +105,7 @@ role_kept r call = by (is_active r.role)
     by true = answered_role r (length (logged_by r call)) call
     by false = refl
 
-due_was : (r : Open) (call : Call) → is_due r (steps.Client call) ≡ true → (b : Bool) → is_active r.role ≡ b → is_active r.role ≡ true
+pub due_was : (r : Open) (call : Call) → is_due r (steps.Client call) ≡ true → (b : Bool) → is_active r.role ≡ b → is_active r.role ≡ true
 due_was r call due true e = e
 due_was r call due false e =
     let says_so : reply r call ≡ Some (plain (answers.NotActive r.id)) = cond-false (is_active r.role) (told r.front r.contents call) (Some (plain (answers.NotActive r.id))) e in
@@ -113,6 +114,34 @@ due_was r call due false e =
 -- the step behind which a Barrier is due leaves an active primary
 pub due_active : (r : Open) (call : Call) → is_due r (steps.Client call) ≡ true → is_active (stepped r (steps.Client call)).role ≡ true
 due_active r call due = ap is_active (role_kept r call) ∙ due_was r call due (is_active r.role) refl
+
+-- a call that was answered has no Barrier
+answered_not_due : (r : Open) (call : Call) (given : Reply) → reply r call ≡ Some given → is_due r (steps.Client call) ≡ true → ⊥
+answered_not_due r call given says_so due = false≢true (sym (told_is r call given says_so).not_due ∙ due)
+
+-- where a Barrier is due the replica shows what it tells
+pub call_shows : (r : Open) (call : Call) → is_due r (steps.Client call) ≡ true → (outcome r (steps.Client call)).shown ≡ (called r call).shown
+call_shows r call due = by call due (due_was r call due (is_active r.role) refl)
+  where
+    collection : (c : Call) → IsInCollection c → is_due r (steps.Client c) ≡ true → (outcome r (steps.Client c)).shown ≡ (called r c).shown
+    collection c in_one d = let given = has_reply r c in_one (reply r c) refl in absurd (answered_not_due r c given.0 given.1 d)
+
+    commit : (t : TxnId) → is_due r (steps.Client (Commit t)) ≡ true → is_active r.role ≡ true → (o : Option Going) → going_of r.front t ≡ o → (outcome r (steps.Client (Commit t))).shown ≡ (called r (Commit t)).shown
+    commit t d on None none = absurd (answered_not_due r (Commit t) (plain (answers.Ended t)) (active_reply r (Commit t) on ∙ told_ended r.front r.contents (Commit t) t refl none) d)
+    commit t d on (Some g) is =
+        let c = committed_is r t g on is (active_reply r (Commit t) on ∙ going_told r.front r.contents (Commit t) t g refl is) in
+        c.shows ∙ sym (ap (λ (x : Open). x.shown) c.called_is)
+
+    abort : (t : TxnId) → is_due r (steps.Client (Abort t)) ≡ true → is_active r.role ≡ true → (o : Option Going) → going_of r.front t ≡ o → (outcome r (steps.Client (Abort t))).shown ≡ (called r (Abort t)).shown
+    abort t d on None none = absurd (answered_not_due r (Abort t) (plain (answers.Ended t)) (active_reply r (Abort t) on ∙ told_ended r.front r.contents (Abort t) t refl none) d)
+    abort t d on (Some g) is = absurd (answered_not_due r (Abort t) (plain answers.Done) (active_reply r (Abort t) on ∙ going_told r.front r.contents (Abort t) t g refl is) d)
+
+    by : (c : Call) → is_due r (steps.Client c) ≡ true → is_active r.role ≡ true → (outcome r (steps.Client c)).shown ≡ (called r c).shown
+    by Begin d on = absurd (answered_not_due r Begin (plain (answers.Txn (next r.front))) (active_reply r Begin on) d)
+    by (Make t name kind) d on = collection (Make t name kind) tt d
+    by (OnKey t name key asked) d on = collection (OnKey t name key asked) tt d
+    by (Commit t) d on = commit t d on (going_of r.front t) refl
+    by (Abort t) d on = abort t d on (going_of r.front t) refl
 
 -- the fence and the last epoch of the log behind the step of a call, and behind the Barrier too
 known_once : (course : Course) (r : Open) (log : Log) (call : Call) → AgreesWith r log → MayStep r (steps.Client call) → IsFence course r.fence → r.epoch ≡ course.latest → IsCourse course → IsFence course (log_once r (steps.Client call) log).fence × IsLogged course (log_once r (steps.Client call) log)
@@ -134,34 +163,37 @@ known_twice course r log call agrees may due fence epoch ruled =
     )
 
 -- the order has grown by one, which is shown, and then the replica is closed
-continues_shut : (front : Fronted) (shown : ℕ) (contents : State) (m n : Machine) (t : TxnId) (g : Going) (h : Runs front shown contents m) (w : IsShutWith (with_entry h.entries t g) n) → w.course ≡ h.course → Continues (most_shown (lines_of t g shown ++ says.Fault 0 ∷ [])) m n
-continues_shut front shown contents m n t g h w course =
+continues_shut : (front : Fronted) (shown most : ℕ) (contents : State) (m n : Machine) (t : TxnId) (g : Going) (h : Runs front shown contents m) (w : IsShutWith (with_entry h.entries t g) n) → w.course ≡ h.course → most ≡ shown + 1 → Continues most m n
+continues_shut front shown most contents m n t g h w course one_more =
     let es : List Entry = with_entry h.entries t g in
     let M : Machine = machine_of h in
     let K : Course → Machine = λ c. standing es w.acknowledged (shut c w.shown) w.txns c in
     let is : n ≡ K h.course = w.is ∙ ap K course in
-    let count : 0 + length es ≡ max (0 + length h.entries) (most_shown (lines_of t g shown ++ says.Fault 0 ∷ [])) = let a = length-append h.entries (entry_of t g ∷ []) in let b = h.all_shown in grind (arith, a, b) in
-    let same : Continues (most_shown (lines_of t g shown ++ says.Fault 0 ∷ [])) M (K h.course) = record { appointments = refl; config = refl; answers = refl; order = count } in
-    subst (λ a. Continues (most_shown (lines_of t g shown ++ says.Fault 0 ∷ [])) a n) (sym h.is) (subst (Continues (most_shown (lines_of t g shown ++ says.Fault 0 ∷ [])) M) (sym is) same)
+    let count : 0 + length es ≡ max (0 + length h.entries) most = let a = length-append h.entries (entry_of t g ∷ []) in let b = h.all_shown in grind (arith, a, b, one_more) in
+    let same : Continues most M (K h.course) = record { appointments = refl; config = refl; answers = refl; order = count } in
+    subst (λ a. Continues most a n) (sym h.is) (subst (Continues most M) (sym is) same)
 
 -- ---- a fault
 
--- What a call does that a fault cut off.
-abbrev pub IsFaulted : ℕ → (Areas → Type 0) → Call → List Observation → Machine → Type 0
-IsFaulted number now call lines m = IsWhole m (Client 0 call) lines × Closed number now (moved m (Client 0 call) lines) × StillHolds m now × Continues (most_shown lines) m (moved m (Client 0 call) lines)
+-- What a call does that a fault cut off, after these effects.
+abbrev pub IsFaulted : ℕ → (Areas → Type 0) → Call → ℕ → EventEffects → Machine → Type 0
+IsFaulted number now call order effects m =
+    let lines : List Observation = effects.lines ++ says.Fault 0 ∷ [] in
+    let n : Machine = moved m (Client 0 call) lines in
+    IsWhole m (Client 0 call) lines × Closed number now n × StillHolds m now × ((most : ℕ) × (effects.order ≡ max order most) × Continues most m n)
 
 -- a step that logs nothing has no block
 no_block : (r : Open) (call : Call) → logged_by r call ≡ [] → block r (steps.Client call) ≡ []
 no_block r call none = ap (placed r.last.0 r.epoch) none
 
 -- a call that logs nothing meets none
-silent_cut : (r : Open) (call : Call) (given : Reply) (log : Log) (lines : List Observation) (now : Areas → Type 0) → reply r call ≡ Some given → logged_by r call ≡ [] → IsCutOff r (steps.Client call) log [] lines now → ⊥
-silent_cut r call given log lines now says_so none (inl first) = first.1 (no_block r call none)
-silent_cut r call given log lines now says_so none (inr second) = false≢true (sym (told_is r call given says_so).not_due ∙ second.0)
+silent_cut : (r : Open) (call : Call) (given : Reply) (log : Log) (order : ℕ) (effects : EventEffects) (now : Areas → Type 0) → reply r call ≡ Some given → logged_by r call ≡ [] → IsCutOff r (steps.Client call) log (no_effects order) effects now → ⊥
+silent_cut r call given log order effects now says_so none (inl first) = first.1 (no_block r call none)
+silent_cut r call given log order effects now says_so none (inr second) = false≢true (sym (told_is r call given says_so).not_due ∙ second.0)
 
 -- the disk failed in the first step, of a call that logs
-first_cut : (last number : ℕ) (r : Open) (call : Call) (before now : Areas → Type 0) (lines : List Observation) (m : Machine) → last < number → MayStep r (steps.Client call) → (s : Serving last r before m) → logs (asking (machine_of s.runs) 0 call) call (answer (machine_of s.runs) 0 call) ≡ true → MayFollow s.runs.entries (ended_at 0 (asking (machine_of s.runs) 0 call).txns) (committed_by r (steps.Client call)) → lines ≡ [] → StandForOneOf s.log (log_once r (steps.Client call) s.log) now → IsFaulted number now call (lines ++ says.Fault 0 ∷ []) m
-first_cut last number r call before now lines m later may s logging follow none one =
+first_cut : (last number : ℕ) (r : Open) (call : Call) (before now : Areas → Type 0) (order : ℕ) (effects : EventEffects) (m : Machine) → last < number → MayStep r (steps.Client call) → (s : Serving last r before m) → logs (asking (machine_of s.runs) 0 call) call (answer (machine_of s.runs) 0 call) ≡ true → MayFollow s.runs.entries (ended_at 0 (asking (machine_of s.runs) 0 call).txns) (committed_by r (steps.Client call)) → effects ≡ no_effects order → StandForOneOf s.log (log_once r (steps.Client call) s.log) now → IsFaulted number now call order effects m
+first_cut last number r call before now order effects m later may s logging follow none one =
     let n : Machine = machine_of s.runs in
     let faults = call_faults s.runs.entries s.runs.acknowledged (length s.runs.entries) r.front.begins s.runs.grants s.runs.txns s.runs.course call logging in
     let txns : List (TxnId × Txn) = ended_at 0 (asking n 0 call).txns in
@@ -181,10 +213,10 @@ first_cut last number r call before now lines m later may s logging follow none 
       sound = λ c is. either c (one c is) kept gone;
     } in
     let holds : StillHolds n now = begins_still s.runs.entries s.runs.acknowledged (serving s.runs.course (length s.runs.entries) r.front.begins s.runs.grants) s.runs.txns s.runs.course now refl (λ c is. begins c (one c is) kept gone) in
-    let P : Machine → Type 0 = λ k. IsFaulted number now call (says.Fault 0 ∷ []) k in
-    let continues : Continues 0 n (moved n (Client 0 call) (says.Fault 0 ∷ [])) = subst (Continues 0 n) (sym faults.1) (continues_standing s.runs.entries s.runs.acknowledged s.runs.acknowledged (serving s.runs.course (length s.runs.entries) r.front.begins s.runs.grants) (shut s.runs.course (length s.runs.entries)) s.runs.txns txns s.runs.course 0 refl refl refl) in
-    let all : P m = subst P (sym s.runs.is) (faults.0, then, holds, continues) in
-    let Q : List Observation → Type 0 = λ ls. IsFaulted number now call (ls ++ says.Fault 0 ∷ []) m in
+    let P : Machine → Type 0 = λ k. IsFaulted number now call order (no_effects order) k in
+    let continues : Continues 0 n (moved n (Client 0 call) (says.Fault 0 ∷ [])) = subst (Continues 0 n) (sym faults.1) (continues_standing s.runs.entries s.runs.acknowledged s.runs.acknowledged (serving s.runs.course (length s.runs.entries) r.front.begins s.runs.grants) (shut s.runs.course (length s.runs.entries)) s.runs.txns txns s.runs.course 0 refl refl (omega arith)) in
+    let all : P m = subst P (sym s.runs.is) (faults.0, then, holds, (0, sym (max_none order), continues)) in
+    let Q : EventEffects → Type 0 = λ done. IsFaulted number now call order done m in
     subst Q (sym none) all
   where
     either : (c : Areas) → (durable c ≡ Ok s.log) ⊎ (durable c ≡ Ok (log_once r (steps.Client call) s.log)) → IsSound s.runs.entries (ended_at 0 (asking (machine_of s.runs) 0 call).txns) s.runs.course number s.log → IsSound s.runs.entries (ended_at 0 (asking (machine_of s.runs) 0 call).txns) s.runs.course number (log_once r (steps.Client call) s.log) → (log : Log) × (durable c ≡ Ok log) × IsSound s.runs.entries (ended_at 0 (asking (machine_of s.runs) 0 call).txns) s.runs.course number log
@@ -196,15 +228,15 @@ first_cut last number r call before now lines m later may s logging follow none 
     begins c (inr e) kept gone = (log_once r (steps.Client call) s.log, e, (gone.more, gone.holds))
 
 -- the disk failed in the second step of a commit, behind its lines
-second_cut : (last number : ℕ) (r : Open) (t : TxnId) (g : Going) (before now : Areas → Type 0) (lines : List Observation) (m : Machine) → last < number → (s : Serving last r before m) → going_of r.front t ≡ Some g → IsCommit r s.log t g → lines ≡ told_by r (steps.Client (Commit t)) → StandForOneOf (log_once r (steps.Client (Commit t)) s.log) (log_twice r (steps.Client (Commit t)) s.log) now → IsFaulted number now (Commit t) (lines ++ says.Fault 0 ∷ []) m
-second_cut last number r t g before now lines m later s is c told_so one =
+second_cut : (last number : ℕ) (r : Open) (t : TxnId) (g : Going) (before now : Areas → Type 0) (order : ℕ) (effects : EventEffects) (m : Machine) → last < number → (s : Serving last r before m) → going_of r.front t ≡ Some g → IsCommit r s.log t g → effects ≡ effects_after (no_effects order) r (steps.Client (Commit t)) → StandForOneOf (log_once r (steps.Client (Commit t)) s.log) (log_twice r (steps.Client (Commit t)) s.log) now → IsFaulted number now (Commit t) order effects m
+second_cut last number r t g before now order effects m later s is c told_so one =
     let event = steps.Client (Commit t) in
     let log1 : Log = log_once r event s.log in
     let log2 : Log = log_twice r event s.log in
     let e : Entry = entry_of t g in
     let ends : Ends r.front (front.ended r.front t) t = ends_changes r.front r.contents t g s.is_open.agrees.over is in
     let given : List Observation = lines_of t g r.shown in
-    let lines_are : lines ≡ given = told_so ∙ (c.committed.lines ∙ ap (λ n. says.Order t g.ops ∷ says.View n (r.shown + 1) ∷ says.Committed t ∷ []) s.is_open.first) in
+    let lines_are : told_by r event ≡ given = c.committed.lines ∙ ap (λ n. says.Order t g.ops ∷ says.View n (r.shown + 1) ∷ says.Committed t ∷ []) s.is_open.first in
     let faults = commit_faults r.front (front.ended r.front t) r.shown r.contents m t g s.runs s.ruled is ends in
     let shut_there = faults.1.0 in
     let es : List Entry = with_entry s.runs.entries t g in
@@ -223,8 +255,10 @@ second_cut last number r t g before now lines m later s is c told_so one =
     let then : Closed number now n = record { entries = es; is_shut = shut_there; sound = λ a is. either shut_there.txns shut_there.course a (one a is) sound1 sound2 } in
     let holds : StillHolds m now = subst (λ k. StillHolds k now) (sym s.runs.is)
     (begins_still s.runs.entries s.runs.acknowledged (serving s.runs.course (length s.runs.entries) r.front.begins s.runs.grants) s.runs.txns s.runs.course now refl (λ a is. begins a (one a is) (begins_less s.runs.entries e log1 (commits_in s.log.records) s.commits c.once) (begins_less s.runs.entries e log2 (commits_in s.log.records) s.commits c.twice))) in
-    let Q : List Observation → Type 0 = λ ls. IsFaulted number now (Commit t) (ls ++ says.Fault 0 ∷ []) m in
-    subst Q (sym lines_are) (faults.0, then, holds, continues_shut r.front r.shown r.contents m n t g s.runs shut_there course)
+    let most : ℕ = (outcome r event).shown in
+    let Q : List Observation → Type 0 = λ ls. IsFaulted number now (Commit t) order (record { order = max order most; active = (effects_after (no_effects order) r event).active; lines = ls }) m in
+    let continues : Continues most m n = continues_shut r.front r.shown most r.contents m n t g s.runs shut_there course c.committed.shows in
+    subst (λ (done : EventEffects). IsFaulted number now (Commit t) order done m) (sym told_so) (subst Q (sym lines_are) (faults.0, then, holds, (most, refl, continues)))
   where
     either : (txns : List (TxnId × Txn)) (course : Course) (a : Areas) → (durable a ≡ Ok (log_once r (steps.Client (Commit t)) s.log)) ⊎ (durable a ≡ Ok (log_twice r (steps.Client (Commit t)) s.log)) → IsSound (with_entry s.runs.entries t g) txns course number (log_once r (steps.Client (Commit t)) s.log) → IsSound (with_entry s.runs.entries t g) txns course number (log_twice r (steps.Client (Commit t)) s.log) → (log : Log) × (durable a ≡ Ok log) × IsSound (with_entry s.runs.entries t g) txns course number log
     either txns course a (inl e) one two = (log_once r (steps.Client (Commit t)) s.log, e, one)
@@ -238,36 +272,36 @@ second_cut last number r t g before now lines m later s is c told_so one =
 
 -- what a call of a transaction that goes on does where it was cut off
 abbrev GoingCut : Call → TxnId → Type 1
-GoingCut call t = (last number : ℕ) (r : Open) (g : Going) (before now : Areas → Type 0) (lines : List Observation) (m : Machine) → last < number → MayStep r (steps.Client call) → is_active r.role ≡ true → (s : Serving last r before m) → going_of r.front t ≡ Some g → IsCutOff r (steps.Client call) s.log [] lines now → IsFaulted number now call (lines ++ says.Fault 0 ∷ []) m
+GoingCut call t = (last number : ℕ) (r : Open) (g : Going) (before now : Areas → Type 0) (order : ℕ) (effects : EventEffects) (m : Machine) → last < number → MayStep r (steps.Client call) → is_active r.role ≡ true → (s : Serving last r before m) → going_of r.front t ≡ Some g → IsCutOff r (steps.Client call) s.log (no_effects order) effects now → IsFaulted number now call order effects m
 
 collection_cut : (call : Call) (t : TxnId) → IsInCollection call → txn_named call ≡ Some t → GoingCut call t
-collection_cut call t in_one named last number r g before now lines m later may on s is cut =
+collection_cut call t in_one named last number r g before now order effects m later may on s is cut =
     let given = has_reply r call in_one (reply r call) refl in
     by given.0 given.1 given.0.op refl (collection_logs r call t g on in_one named is (Some given.0) given.1) cut
   where
-    by : (given : Reply) → reply r call ≡ Some given → (op : Option Op) → given.op ≡ op → logged_by r call ≡ logged_op r.last t g given.op → IsCutOff r (steps.Client call) s.log [] lines now → IsFaulted number now call (lines ++ says.Fault 0 ∷ []) m
-    by given says_so None none logged cut = absurd (silent_cut r call given s.log lines now says_so (logged ∙ ap (logged_op r.last t g) none) cut)
+    by : (given : Reply) → reply r call ≡ Some given → (op : Option Op) → given.op ≡ op → logged_by r call ≡ logged_op r.last t g given.op → IsCutOff r (steps.Client call) s.log (no_effects order) effects now → IsFaulted number now call order effects m
+    by given says_so None none logged cut = absurd (silent_cut r call given s.log order effects now says_so (logged ∙ ap (logged_op r.last t g) none) cut)
     by given says_so (Some op) some logged (inl first) =
         let n : Machine = machine_of s.runs in
         let answers : answer n 0 call ≡ Some given = answer_told r.front r.shown r.contents m s.runs call ∙ (sym (active_reply r call on) ∙ says_so) in
         let logging : logs (asking n 0 call) call (answer n 0 call) ≡ true = ap (logs (asking n 0 call) call) answers ∙ ap (λ o. is_some o || (is_ok given.answer && ends_logged (asking n 0 call) call)) some in
-        first_cut last number r call before now lines m later may s logging (subst (MayFollow s.runs.entries (ended_at 0 (asking n 0 call).txns)) (sym (collection_commits r call in_one)) tt) first.0 first.2
+        first_cut last number r call before now order effects m later may s logging (subst (MayFollow s.runs.entries (ended_at 0 (asking n 0 call).txns)) (sym (collection_commits r call in_one)) tt) first.0 first.2
     by given says_so (Some op) some logged (inr second) = absurd (false≢true (sym (told_is r call given says_so).not_due ∙ second.0))
 
 commit_cut : (t : TxnId) → GoingCut (Commit t) t
-commit_cut t last number r g before now lines m later may on s is (inl first) =
+commit_cut t last number r g before now order effects m later may on s is (inl first) =
     let n : Machine = machine_of s.runs in
     let answers : answer n 0 (Commit t) ≡ None = answer_told r.front r.shown r.contents m s.runs (Commit t) ∙ going_told r.front r.contents (Commit t) t g refl is in
-    first_cut last number r (Commit t) before now lines m later may s (ap (logs (asking n 0 (Commit t)) (Commit t)) answers) (commit_follows last r t g before m on s is) first.0 first.2
-commit_cut t last number r g before now lines m later may on s is (inr second) =
-    second_cut last number r t g before now lines m later s is (commit_is r s.log t g on s.is_open.agrees is) second.1 second.2
+    first_cut last number r (Commit t) before now order effects m later may s (ap (logs (asking n 0 (Commit t)) (Commit t)) answers) (commit_follows last r t g before m on s is) first.0 first.2
+commit_cut t last number r g before now order effects m later may on s is (inr second) =
+    second_cut last number r t g before now order effects m later s is (commit_is r s.log t g on s.is_open.agrees is) second.1 second.2
 
 -- an abort logs where the transaction has records, and so operations
 abort_logs : (r : Open) (t : TxnId) (g : Going) → is_active r.role ≡ true → going_of r.front t ≡ Some g → logged_by r (Abort t) ≡ logged_abort t g
 abort_logs r t g on is = ap (λ o. option_map_or (λ going. logged_abort t going) o []) (cond-true (is_active r.role) (going_of r.front t) None on ∙ is)
 
 abort_cut : (t : TxnId) → GoingCut (Abort t) t
-abort_cut t last number r g before now lines m later may on s is cut = by (g.last.0 == 0) refl cut
+abort_cut t last number r g before now order effects m later may on s is cut = by (g.last.0 == 0) refl cut
   where
     n : Machine
     n = machine_of s.runs
@@ -284,32 +318,32 @@ abort_cut t last number r g before now lines m later may on s is cut = by (g.las
         ∙ (ap (λ b. option_map_or (λ x. not (length (ops_of x) == 0)) (cond b (Some (record k.txn { live = false })) (lookup (is_txn t) s.runs.txns)) false) (is_txn_same t)
         ∙ (ap (λ ops. not (length ops == 0)) k.ops ∙ ap (λ b. not b) some))
 
-    by : (b : Bool) → (g.last.0 == 0) ≡ b → IsCutOff r (steps.Client (Abort t)) s.log [] lines now → IsFaulted number now (Abort t) (lines ++ says.Fault 0 ∷ []) m
-    by true empty cut = absurd (silent_cut r (Abort t) (plain answers.Done) s.log lines now says_so (abort_logs r t g on is ∙ ap (λ b. cond b [] (recs.End t g.last false ∷ [])) empty) cut)
+    by : (b : Bool) → (g.last.0 == 0) ≡ b → IsCutOff r (steps.Client (Abort t)) s.log (no_effects order) effects now → IsFaulted number now (Abort t) order effects m
+    by true empty cut = absurd (silent_cut r (Abort t) (plain answers.Done) s.log order effects now says_so (abort_logs r t g on is ∙ ap (λ b. cond b [] (recs.End t g.last false ∷ [])) empty) cut)
     by false some (inl first) =
         let answers : answer n 0 (Abort t) ≡ Some (plain answers.Done) = answer_told r.front r.shown r.contents m s.runs (Abort t) ∙ (sym (active_reply r (Abort t) on) ∙ says_so) in
         let logging : logs (asking n 0 (Abort t)) (Abort t) (answer n 0 (Abort t)) ≡ true = ap (logs (asking n 0 (Abort t)) (Abort t)) answers ∙ ends (sym (s.recorded t g is) ∙ some) in
-        first_cut last number r (Abort t) before now lines m later may s logging tt first.0 first.2
+        first_cut last number r (Abort t) before now order effects m later may s logging tt first.0 first.2
     by false some (inr second) = absurd (false≢true (sym (told_is r (Abort t) (plain answers.Done) says_so).not_due ∙ second.0))
 
-named_cut : (call : Call) (t : TxnId) → txn_named call ≡ Some t → GoingCut call t → (last number : ℕ) (r : Open) (before now : Areas → Type 0) (lines : List Observation) (m : Machine) → last < number → MayStep r (steps.Client call) → is_active r.role ≡ true → (s : Serving last r before m) → IsCutOff r (steps.Client call) s.log [] lines now → (o : Option Going) → going_of r.front t ≡ o → IsFaulted number now call (lines ++ says.Fault 0 ∷ []) m
-named_cut call t named going last number r before now lines m later may on s cut (Some g) is = going last number r g before now lines m later may on s is cut
-named_cut call t named going last number r before now lines m later may on s cut None none = absurd (silent_cut r call (plain (answers.Ended t)) s.log lines now (active_reply r call on ∙ told_ended r.front r.contents call t named none) (none_logs r call t on named none) cut)
+named_cut : (call : Call) (t : TxnId) → txn_named call ≡ Some t → GoingCut call t → (last number : ℕ) (r : Open) (before now : Areas → Type 0) (order : ℕ) (effects : EventEffects) (m : Machine) → last < number → MayStep r (steps.Client call) → is_active r.role ≡ true → (s : Serving last r before m) → IsCutOff r (steps.Client call) s.log (no_effects order) effects now → (o : Option Going) → going_of r.front t ≡ o → IsFaulted number now call order effects m
+named_cut call t named going last number r before now order effects m later may on s cut (Some g) is = going last number r g before now order effects m later may on s is cut
+named_cut call t named going last number r before now order effects m later may on s cut None none = absurd (silent_cut r call (plain (answers.Ended t)) s.log order effects now (active_reply r call on ∙ told_ended r.front r.contents call t named none) (none_logs r call t on named none) cut)
 
-primary_cut : (last number : ℕ) (r : Open) (call : Call) (before now : Areas → Type 0) (lines : List Observation) (m : Machine) → last < number → MayStep r (steps.Client call) → is_active r.role ≡ true → (s : Serving last r before m) → IsCutOff r (steps.Client call) s.log [] lines now → IsFaulted number now call (lines ++ says.Fault 0 ∷ []) m
-primary_cut last number r Begin before now lines m later may on s cut = absurd (silent_cut r Begin (plain (answers.Txn (next r.front))) s.log lines now (active_reply r Begin on) refl cut)
-primary_cut last number r (Make t name kind) before now lines m later may on s cut = let call : Call = Make t name kind in named_cut call t refl (collection_cut call t tt refl) last number r before now lines m later may on s cut (going_of r.front t) refl
-primary_cut last number r (OnKey t name key asked) before now lines m later may on s cut = let call : Call = OnKey t name key asked in named_cut call t refl (collection_cut call t tt refl) last number r before now lines m later may on s cut (going_of r.front t) refl
-primary_cut last number r (Commit t) before now lines m later may on s cut = named_cut (Commit t) t refl (commit_cut t) last number r before now lines m later may on s cut (going_of r.front t) refl
-primary_cut last number r (Abort t) before now lines m later may on s cut = named_cut (Abort t) t refl (abort_cut t) last number r before now lines m later may on s cut (going_of r.front t) refl
+primary_cut : (last number : ℕ) (r : Open) (call : Call) (before now : Areas → Type 0) (order : ℕ) (effects : EventEffects) (m : Machine) → last < number → MayStep r (steps.Client call) → is_active r.role ≡ true → (s : Serving last r before m) → IsCutOff r (steps.Client call) s.log (no_effects order) effects now → IsFaulted number now call order effects m
+primary_cut last number r Begin before now order effects m later may on s cut = absurd (silent_cut r Begin (plain (answers.Txn (next r.front))) s.log order effects now (active_reply r Begin on) refl cut)
+primary_cut last number r (Make t name kind) before now order effects m later may on s cut = let call : Call = Make t name kind in named_cut call t refl (collection_cut call t tt refl) last number r before now order effects m later may on s cut (going_of r.front t) refl
+primary_cut last number r (OnKey t name key asked) before now order effects m later may on s cut = let call : Call = OnKey t name key asked in named_cut call t refl (collection_cut call t tt refl) last number r before now order effects m later may on s cut (going_of r.front t) refl
+primary_cut last number r (Commit t) before now order effects m later may on s cut = named_cut (Commit t) t refl (commit_cut t) last number r before now order effects m later may on s cut (going_of r.front t) refl
+primary_cut last number r (Abort t) before now order effects m later may on s cut = named_cut (Abort t) t refl (abort_cut t) last number r before now order effects m later may on s cut (going_of r.front t) refl
 
-role_cut : (last number : ℕ) (r : Open) (call : Call) (before now : Areas → Type 0) (lines : List Observation) (m : Machine) → last < number → MayStep r (steps.Client call) → (role : Role) → r.role ≡ role → AsRole role last r before m → ((log : Log) → IsOpen r log before → IsCutOff r (steps.Client call) log [] lines now) → IsFaulted number now call (lines ++ says.Fault 0 ∷ []) m
-role_cut last number r call before now lines m later may Other e s cut = absurd (silent_cut r call (plain (answers.NotActive r.id)) s.log lines now (rests_reply r call e) (rests_logs r call (ap is_active e)) (cut s.log s.is_open))
-role_cut last number r call before now lines m later may (Primary epoch active) e s cut = primary_cut last number r call before now lines m later may (primary_active r s.log epoch active e s.is_open.agrees) s (cut s.log s.is_open)
+role_cut : (last number : ℕ) (r : Open) (call : Call) (before now : Areas → Type 0) (order : ℕ) (effects : EventEffects) (m : Machine) → last < number → MayStep r (steps.Client call) → (role : Role) → r.role ≡ role → AsRole role last r before m → ((log : Log) → IsOpen r log before → IsCutOff r (steps.Client call) log (no_effects order) effects now) → IsFaulted number now call order effects m
+role_cut last number r call before now order effects m later may Other e s cut = absurd (silent_cut r call (plain (answers.NotActive r.id)) s.log order effects now (rests_reply r call e) (rests_logs r call (ap is_active e)) (cut s.log s.is_open))
+role_cut last number r call before now order effects m later may (Primary epoch active) e s cut = primary_cut last number r call before now order effects m later may (primary_active r s.log epoch active e s.is_open.agrees) s (cut s.log s.is_open)
 
 -- A call that a fault cut off is told so, and the replica is closed.
-pub call_cut : (last number : ℕ) (r : Open) (call : Call) (before now : Areas → Type 0) (lines : List Observation) (m : Machine) → last < number → CallFits call → AsReplica (Some r) last before m → ((log : Log) → IsOpen r log before → IsCutOff r (steps.Client call) log [] lines now) → IsFaulted number now call (lines ++ says.Fault 0 ∷ []) m
-call_cut last number r call before now lines m later fits s cut = role_cut last number r call before now lines m later fits r.role refl s cut
+pub call_cut : (last number : ℕ) (r : Open) (call : Call) (before now : Areas → Type 0) (order : ℕ) (effects : EventEffects) (m : Machine) → last < number → CallFits call → AsReplica (Some r) last before m → ((log : Log) → IsOpen r log before → IsCutOff r (steps.Client call) log (no_effects order) effects now) → IsFaulted number now call order effects m
+call_cut last number r call before now order effects m later fits s cut = role_cut last number r call before now order effects m later fits r.role refl s cut
 
 -- ---- want of memory
 

@@ -23,7 +23,8 @@ use Rattle.replica.specs.Open.{Open}
 use Rattle.replica.specs.Step.{reply, is_active, outcome}
 use Rattle.world.specs.declared.error.WorldError.{WorldError}
 use Rattle.world.specs.Fleet.{faults_in, fault_lines, is_fault_of, RoseBy, TellsZero}
-use Rattle.world.specs.Steps.{told_by, order_line, cons_if, most_shown, IsCutOff}
+use Rattle.world.specs.declared.effects.EventEffects.{EventEffects}
+use Rattle.world.specs.Steps.{told_by, order_line, cons_if, no_effects, IsCutOff}
 use Rattle.order_machine.specs.AnswerLines.{line_of_answer}
 use Rattle.std.specs.Prelude.{option_map}
 use Rattle.world.proofs.Answer.{is_answer, live_reply_is}
@@ -40,7 +41,7 @@ pub faults_append : (r : ℕ) (xs ys : List Observation) → faults_in r (xs ++ 
 faults_append r [] ys = omega arith
 faults_append r (o ∷ os) ys = one_more (is_fault_of r o) (faults_in r (os ++ ys)) (faults_in r os) (faults_in r ys) (faults_append r os ys)
 
--- the line of an answer tells no fault, and shows nothing
+-- the line of an answer tells no fault
 pub answer_faultless : (r : ℕ) (told : Answer) → faults_in r (line_of_answer told ∷ []) ≡ 0
 answer_faultless r (answers.Txn t) = refl
 answer_faultless r answers.Done = refl
@@ -59,24 +60,6 @@ answer_faultless r (answers.Progress q e last) = refl
 answer_faultless r answers.IgnoredUp = refl
 answer_faultless r (answers.IgnoredOldEpoch fence e) = refl
 
-pub answer_shows : (told : Answer) → most_shown (line_of_answer told ∷ []) ≡ 0
-answer_shows (answers.Txn t) = refl
-answer_shows answers.Done = refl
-answer_shows answers.True = refl
-answer_shows answers.False = refl
-answer_shows (answers.Value value) = refl
-answer_shows answers.Missing = refl
-answer_shows answers.Absent = refl
-answer_shows answers.WrongKind = refl
-answer_shows (answers.Ended t) = refl
-answer_shows (answers.Locked t) = refl
-answer_shows (answers.NotActive q) = refl
-answer_shows (answers.Down q) = refl
-answer_shows (answers.Refused part) = refl
-answer_shows (answers.Progress q e last) = refl
-answer_shows answers.IgnoredUp = refl
-answer_shows (answers.IgnoredOldEpoch fence e) = refl
-
 orders_faultless : (r : ℕ) (cs : List Committed) → faults_in r (map order_line cs) ≡ 0
 orders_faultless r [] = refl
 orders_faultless r (c ∷ cs) = orders_faultless r cs
@@ -94,22 +77,6 @@ active_faultless r id true = refl
 active_faultless r id false = refl
 
 -- ---- the lines of a call
-
--- a call is answered by an answer
-pub reply_answers : (r : Open) (call : Call) (given : Reply) → reply r call ≡ Some given → is_answer given.answer ≡ true
-reply_answers r call given e = by_role (is_active r.role) e
-  where
-    by_going : (t : TxnId) (o : Option Going) → option_map_or (λ going. live_reply r.front.grants (folded r.contents going.ops) t call) o (Some (plain (answers.Ended t))) ≡ Some given → is_answer given.answer ≡ true
-    by_going t None a = subst (λ x. is_answer x.answer ≡ true) (same_Some (plain (answers.Ended t)) given a) refl
-    by_going t (Some g) a = live_reply_is r.front.grants (folded r.contents g.ops) t call given a
-
-    by_name : (o : Option TxnId) → option_map_or (λ t. option_map_or (λ going. live_reply r.front.grants (folded r.contents going.ops) t call) (going_of r.front t) (Some (plain (answers.Ended t)))) o (Some (plain (answers.Txn (txn_at r.front (r.front.begins + 1))))) ≡ Some given → is_answer given.answer ≡ true
-    by_name None a = subst (λ x. is_answer x.answer ≡ true) (same_Some (plain (answers.Txn (txn_at r.front (r.front.begins + 1)))) given a) refl
-    by_name (Some t) a = by_going t (going_of r.front t) a
-
-    by_role : (b : Bool) → cond b (front.told r.front r.contents call) (Some (plain (answers.NotActive r.id))) ≡ Some given → is_answer given.answer ≡ true
-    by_role true a = by_name (txn_named call) a
-    by_role false a = subst (λ x. is_answer x.answer ≡ true) (same_Some (plain (answers.NotActive r.id)) given a) refl
 
 answered_part : (q : ℕ) (o : Option Answer) → faults_in q (cons_option (option_map line_of_answer o) []) ≡ 0
 answered_part q None = refl
@@ -142,14 +109,14 @@ pub rose_one : (before now : ℕ) → before ≤ now → Rose before now → (n 
 rose_one before now later rose n e = record { later = later; by = rw e rose }
 
 -- the lines of a call that the disk cut off, and the line that says so
-pub faulted_rise : (r : Open) (call : Call) (log : Log) (lines : List Observation) (images : Areas → Type 0) (before now : ℕ) (result : Result (List Observation) WorldError) → IsCutOff r (steps.Client call) log [] lines images → before ≤ now → Rose before now → IfOk result (λ given. given ≡ lines ++ says.Fault 0 ∷ []) → RoseBy (fault_lines 0 result) before now
-faulted_rise r call log lines images before now (Ok given) (inl first) later rose is = rose_one before now later rose (faults_in 0 given) (ap (faults_in 0) (is ∙ ap (λ ls. ls ++ says.Fault 0 ∷ []) first.0))
-faulted_rise r call log lines images before now (Ok given) (inr second) later rose is =
+pub faulted_rise : (r : Open) (call : Call) (log : Log) (order : ℕ) (effects : EventEffects) (images : Areas → Type 0) (before now : ℕ) (result : Result (List Observation) WorldError) → IsCutOff r (steps.Client call) log (no_effects order) effects images → before ≤ now → Rose before now → IfOk result (λ given. given ≡ effects.lines ++ says.Fault 0 ∷ []) → RoseBy (fault_lines 0 result) before now
+faulted_rise r call log order effects images before now (Ok given) (inl first) later rose is = rose_one before now later rose (faults_in 0 given) (ap (faults_in 0) (is ∙ ap (λ (done : EventEffects). done.lines ++ says.Fault 0 ∷ []) first.0))
+faulted_rise r call log order effects images before now (Ok given) (inr second) later rose is =
     let a = faults_append 0 (told_by r (steps.Client call)) (says.Fault 0 ∷ []) in
     let z = told_faultless 0 r call in
-    let n : faults_in 0 given ≡ 1 = ap (faults_in 0) (is ∙ ap (λ ls. ls ++ says.Fault 0 ∷ []) second.1) ∙ omega (arith, a, z) in
+    let n : faults_in 0 given ≡ 1 = ap (faults_in 0) (is ∙ ap (λ (done : EventEffects). done.lines ++ says.Fault 0 ∷ []) second.1) ∙ omega (arith, a, z) in
     rose_one before now later rose (faults_in 0 given) n
-faulted_rise r call log lines images before now (Err e) cut later rose is = rose_none before now later 0 refl
+faulted_rise r call log order effects images before now (Err e) cut later rose is = rose_none before now later 0 refl
 
 not_first : (q : ℕ) → (0 == suc q) ≡ false
 not_first q = by_bool (0 == suc q) refl
@@ -166,16 +133,16 @@ fault_first q = ap (λ b. cond b 1 0) (not_first q)
 pub others_told : (r : Open) (call : Call) → TellsZero (told_by r (steps.Client call))
 others_told r call q = told_faultless (suc q) r call
 
-pub others_cut : (r : Open) (call : Call) (log : Log) (lines : List Observation) (images : Areas → Type 0) (result : Result (List Observation) WorldError) → IsCutOff r (steps.Client call) log [] lines images → IfOk result (λ given. given ≡ lines ++ says.Fault 0 ∷ []) → IfOk result TellsZero
-others_cut r call log lines images (Ok given) (inl first) is = λ q. ap (faults_in (suc q)) (is ∙ ap (λ ls. ls ++ says.Fault 0 ∷ []) first.0) ∙ fault_first q
-others_cut r call log lines images (Ok given) (inr second) is = λ q.
+pub others_cut : (r : Open) (call : Call) (log : Log) (order : ℕ) (effects : EventEffects) (images : Areas → Type 0) (result : Result (List Observation) WorldError) → IsCutOff r (steps.Client call) log (no_effects order) effects images → IfOk result (λ given. given ≡ effects.lines ++ says.Fault 0 ∷ []) → IfOk result TellsZero
+others_cut r call log order effects images (Ok given) (inl first) is = λ q. ap (faults_in (suc q)) (is ∙ ap (λ (done : EventEffects). done.lines ++ says.Fault 0 ∷ []) first.0) ∙ fault_first q
+others_cut r call log order effects images (Ok given) (inr second) is = λ q.
     let a = faults_append (suc q) (told_by r (steps.Client call)) (says.Fault 0 ∷ []) in
     let z = told_faultless (suc q) r call in
     let f = fault_first q in
-    ap (faults_in (suc q)) (is ∙ ap (λ ls. ls ++ says.Fault 0 ∷ []) second.1) ∙ omega (arith, a, z, f)
-others_cut r call log lines images (Err e) cut is = tt
+    ap (faults_in (suc q)) (is ∙ ap (λ (done : EventEffects). done.lines ++ says.Fault 0 ∷ []) second.1) ∙ omega (arith, a, z, f)
+others_cut r call log order effects images (Err e) cut is = tt
 
-rows_faultless : (q : ℕ) (rows : List (List (List ℕ))) → faults_in q (map says.Rows rows) ≡ 0
+pub rows_faultless : (q : ℕ) (rows : List (List (List ℕ))) → faults_in q (map says.Rows rows) ≡ 0
 rows_faultless q [] = refl
 rows_faultless q (row ∷ rows) = rows_faultless q rows
 

@@ -68,8 +68,10 @@ pub ruled_still : (k new : Kept) (m n : Machine) → new.rule ≡ k.rule → new
 ruled_still k new m n rule order c r = ruled_on k new m n 0 rule (order ∙ sym (max_none k.order)) c r
 
 -- machines of this world that differ neither in the order nor in what was decided
-pub continues_standing : (entries : List Entry) (acknowledged others : List TxnId) (first then : Replica) (txns more : List (TxnId × Txn)) (course : Course) (most : ℕ) → first.loss ≡ 0 → then.loss ≡ 0 → most ≡ 0 → Continues most (standing entries acknowledged first txns course) (standing entries others then more course)
-continues_standing entries acknowledged others first then txns more course most loss still none = record { appointments = refl; config = refl; answers = refl; order = rw (loss, still, none) (sym (max_none (0 + length entries))) }
+pub continues_standing : (entries : List Entry) (acknowledged others : List TxnId) (first then : Replica) (txns more : List (TxnId × Txn)) (course : Course) (most : ℕ) → first.loss ≡ 0 → then.loss ≡ 0 → most ≤ length entries → Continues most (standing entries acknowledged first txns course) (standing entries others then more course)
+continues_standing entries acknowledged others first then txns more course most loss still low =
+    let same : 0 + length entries ≡ max (0 + length entries) most = grind (arith, low) in
+    record { appointments = refl; config = refl; answers = refl; order = rw (loss, still) same }
 
 -- ---- a booted world
 

@@ -78,10 +78,6 @@ elsewhere_lent (x ∷ xs) d' m event here first (suc r) other = refl
 
 -- ---- faults
 
-faults_there : {M : Type 0} (faults : M → ℕ) (items : List M) (d' : M) (r : ℕ) → faults_of faults (slice_set items 0 d') (suc r) ≡ faults_of faults items (suc r)
-faults_there faults [] d' r = refl
-faults_there faults (x ∷ xs) d' r = refl
-
 no_rise : (r : ℕ) (result : Result (List Observation) WorldError) → IfOk result TellsZero → fault_lines (suc r) result ≡ 0
 no_rise r (Ok lines) names = names r
 no_rise r (Err e) names = refl

@@ -31,6 +31,8 @@ pub mod Quiet
 pub mod Quietly
 pub mod Readable
 pub mod Refusals
+pub mod Guards
+pub mod Handled
 pub mod Reopened
 pub mod Reopening
 pub mod Roleless

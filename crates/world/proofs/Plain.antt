@@ -39,6 +39,7 @@ pub record IsTold (r : Open) (call : Call) (given : Reply) : Type 0 where
   pub keeps : finished r (steps.Client call) ≡ called r call
   pub log : (log : Log) → log_behind r (steps.Client call) log ≡ log_once r (steps.Client call) log
   pub not_due : is_due r (steps.Client call) ≡ false
+  pub shows : (outcome r (steps.Client call)).shown ≡ r.shown
 
 pub told_is : (r : Open) (call : Call) (given : Reply) → reply r call ≡ Some given → IsTold r call given
 told_is r call given e =
@@ -49,6 +50,7 @@ told_is r call given e =
       keeps = ap (λ b. cond b (lengthened 1 (called r call).epoch (called r call)) (called r call)) not_due;
       log = λ log. ap (λ b. cond b (log_twice r (steps.Client call) log) (log_once r (steps.Client call) log)) not_due;
       not_due = not_due;
+      shows = ap (λ (out : Outcome). out.shown) told_so;
     }
 
 -- ---- a commit
@@ -64,6 +66,7 @@ pub record IsCommitted (r : Open) (t : TxnId) (g : Going) : Type 0 where
   pub due : is_due r (steps.Client (Commit t)) ≡ true
   pub called_is : called r (Commit t) ≡ committed_open (length (logged_by r (Commit t))) t g r
   pub commits : committed_by r (steps.Client (Commit t)) ≡ record { txn = t; ops = g.ops } ∷ []
+  pub shows : (outcome r (steps.Client (Commit t))).shown ≡ r.shown + 1
 
 above : (n : ℕ) → nat_lt n (n + 1) ≡ true
 above n = by_bool (nat_lt n (n + 1)) refl
@@ -90,6 +93,7 @@ committed_is r t g active is e =
       due = due;
       called_is = cond-true (is_active r.role) (answered count (Commit t) r) r active ∙ ap (λ o. option_map_or (λ (h : Going). committed_open count t h r) o r) is;
       commits = commits;
+      shows = ap (λ (out : Outcome). out.shown) told_so;
     }
   where
     commit_lines : told r.id r.shown (is_active r.role) (shown_commits r (one_commit t g)) ≡ says.Order t g.ops ∷ says.View r.id (r.shown + 1) ∷ says.Committed t ∷ []

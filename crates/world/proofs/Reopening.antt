@@ -1,7 +1,8 @@
 -- A crash of a booted world's replica, and its reboot: its disk holds logs that are sound.
-use Rattle.std.proofs.Common.{◌≡◌, ◌∙◌, sym, ap, subst, refl, ℕ, ◌*◌, ◌≤◌, true, List, [], ◌∷◌, ◌++◌, length, map, Option, Some, None, Result, Ok, arith, length-append, ⊎_elim}
+use Rattle.std.proofs.Common.{◌≡◌, ◌∙◌, sym, ap, subst, refl, ℕ, ◌*◌, ◌≤◌, true, List, [], ◌∷◌, ◌++◌, length, map, Option, Some, None, Result, Ok, suc, arith, length-append, ⊎_elim}
 use Rattle.std.specs.Option.{ForSome, IsSome, IfSome}
 use Rattle.std.proofs.lemmas.List.{length-map}
+use Rattle.rc_base.specs.Counts.{Counted}
 use Rattle.rc_base.specs.Ids.{no_epoch}
 use Rattle.rc_base.specs.declared.no_memory.NoMemory.{NoMemory}
 use Rattle.disk_model.specs.Disk.{Areas, Each, Within, Only, Follows}
@@ -25,10 +26,12 @@ use Rattle.replica.specs.Open.{Open, commits_to, shown_in, stable_in}
 use Rattle.world.specs.Disks.{as_commit}
 use Rattle.rc_base.specs.declared.ids.TxnId.{TxnId}
 use Rattle.world.specs.Course.{IsFence, IsLogged}
+use Rattle.world.specs.Fleet.{TellsZero, RoseBy, faults_in}
 use Rattle.world.specs.Kept.{Kept, has_booted}
 use Rattle.world.specs.Standing.{Course, standing, serving, resting, shut}
 use Rattle.world.specs.World.{AsReplica, AsRole, Resting, Closed, IsOpen, IsSound, Serves, StillHolds}
 use Rattle.world.proofs.Later.{replica_of, ruled_of, ruled_still, Continues, continues_standing, closed_of, closed_stands, open_stands, still_within}
+use Rattle.world.proofs.Faultless.{fault_first, rose_none, rose_one}
 use Rattle.world.proofs.Past.{past_of_runs, past_ended, follow_ended}
 use Rattle.world.proofs.Roleless.{serving_sound}
 use Rattle.world.proofs.Readable.{an_image}
@@ -60,7 +63,7 @@ crash_continues : (entries : List Entry) (acknowledged : List TxnId) (first : Re
     (let m : Machine = standing entries acknowledged first txns course in
     moved m (Crash 0 pick) (says.Done ∷ []) ≡ standing entries acknowledged (crashed first) (ended_at 0 txns) course → Continues 0 m (moved m (Crash 0 pick) (says.Done ∷ [])))
 crash_continues entries acknowledged first txns course pick loss = λ is.
-    subst (Continues 0 (standing entries acknowledged first txns course)) (sym is) (continues_standing entries acknowledged acknowledged first (crashed first) txns (ended_at 0 txns) course 0 loss loss refl)
+    subst (Continues 0 (standing entries acknowledged first txns course)) (sym is) (continues_standing entries acknowledged acknowledged first (crashed first) txns (ended_at 0 txns) course 0 loss loss (omega arith))
 
 crash_role : (role : Role) (last number : ℕ) (r : Open) (images now : Areas → Type 0) (m : Machine) (pick : ℕ) → last ≤ number → Within images now → AsRole role last r images m → Crashes m pick number now
 crash_role Other last number r images now m pick rising within s =
@@ -167,7 +170,7 @@ opens_at last number images now m r log c rising is follows o stable idle s =
         shows = ap (λ n. commits_to n log.records ++ sound.hidden) stable ∙ sound.shows;
         few = let none : r.front.begins ≡ 0 = ap (λ f. f.begins) idle in omega (arith, none);
       },
-      subst (Continues 0 (standing s.entries s.is_shut.acknowledged (shut s.is_shut.course s.is_shut.shown) s.is_shut.txns s.is_shut.course)) (sym done.1) (continues_standing s.entries s.is_shut.acknowledged s.is_shut.acknowledged (shut s.is_shut.course s.is_shut.shown) (resting s.is_shut.course r.shown) s.is_shut.txns s.is_shut.txns s.is_shut.course 0 refl refl refl),
+      subst (Continues 0 (standing s.entries s.is_shut.acknowledged (shut s.is_shut.course s.is_shut.shown) s.is_shut.txns s.is_shut.course)) (sym done.1) (continues_standing s.entries s.is_shut.acknowledged s.is_shut.acknowledged (shut s.is_shut.course s.is_shut.shown) (resting s.is_shut.course r.shown) s.is_shut.txns s.is_shut.txns s.is_shut.course 0 refl refl (omega arith)),
     )
 
 pub reboot_opens : (k new : Kept) (images now : Areas → Type 0) (seen : Option Areas) (r : Open) (log : Log) (lines : List Observation) → has_booted k ≡ true → k.replica ≡ None → k.last ≤ new.last → has_booted new ≡ true → new.rule ≡ k.rule → new.order ≡ k.order → new.replica ≡ Some r →
@@ -194,7 +197,7 @@ fails_at last number images now m rising follows s =
         is_shut = record { acknowledged = s.is_shut.acknowledged; txns = ended_at 0 s.is_shut.txns; course = s.is_shut.course; shown = s.is_shut.shown; is = done.1; ruled = s.is_shut.ruled; past = past_ended s.is_shut.course s.entries s.is_shut.acknowledged s.is_shut.txns s.is_shut.past };
         sound = still_sound s.entries s.is_shut.txns s.is_shut.course last number now now rising (λ c is. is) (sound_follows s.entries s.is_shut.txns s.is_shut.course last images now follows s.sound);
       },
-      subst (Continues 0 (standing s.entries s.is_shut.acknowledged (shut s.is_shut.course s.is_shut.shown) s.is_shut.txns s.is_shut.course)) (sym done.1) (continues_standing s.entries s.is_shut.acknowledged s.is_shut.acknowledged (shut s.is_shut.course s.is_shut.shown) (shut s.is_shut.course s.is_shut.shown) s.is_shut.txns (ended_at 0 s.is_shut.txns) s.is_shut.course 0 refl refl refl),
+      subst (Continues 0 (standing s.entries s.is_shut.acknowledged (shut s.is_shut.course s.is_shut.shown) s.is_shut.txns s.is_shut.course)) (sym done.1) (continues_standing s.entries s.is_shut.acknowledged s.is_shut.acknowledged (shut s.is_shut.course s.is_shut.shown) (shut s.is_shut.course s.is_shut.shown) s.is_shut.txns (ended_at 0 s.is_shut.txns) s.is_shut.course 0 refl refl (omega arith)),
     )
 
 pub reboot_fails : (k new : Kept) (images now : Areas → Type 0) (lines : List Observation) → has_booted k ≡ true → k.replica ≡ None → k.last ≤ new.last → has_booted new ≡ true → new.rule ≡ k.rule → new.order ≡ k.order → new.replica ≡ None → Follows (KeepsOrBegins 0) images now → lines ≡ says.Fault 0 ∷ [] → Serves k new images now (Reboot 0) (Ok lines)
@@ -211,3 +214,21 @@ pub reboot_does : (k new : Kept) (images now : Areas → Type 0) (seen : Option 
     IfSome o (λ r. lines ≡ begun ++ says.Up 0 ∷ says.View 0 r.shown ∷ []) → (◌≡◌ {A = Result (Option Open) NoMemory} (Ok o) (Ok None) → lines ≡ begun ++ says.Fault 0 ∷ []) → Serves k new images now (Reboot 0) (Ok lines)
 reboot_does k new images now seen None begun lines empty booted none rising new_booted rule order is there shown follows opened fresh told faulted = reboot_fails k new images now lines booted none rising new_booted rule order is follows (faulted refl ∙ ap (λ ls. ls ++ says.Fault 0 ∷ []) empty)
 reboot_does k new images now seen (Some r) begun lines empty booted none rising new_booted rule order is there shown follows opened fresh told faulted = reboot_opens k new images now seen r opened.0 lines booted none rising new_booted rule order is there shown follows opened.1 opened.2 fresh.0 fresh.1 (told ∙ ap (λ ls. ls ++ says.Up 0 ∷ says.View 0 r.shown ∷ []) empty)
+
+-- ---- the faults of an opening
+
+abbrev OpenedLines : Option Open → List Observation → List Observation → Type 0
+OpenedLines o begun lines = IfSome o (λ r. lines ≡ begun ++ says.Up 0 ∷ says.View 0 r.shown ∷ [])
+
+abbrev UnopenedLines : Option Open → List Observation → List Observation → Type 0
+UnopenedLines o begun lines = ◌≡◌ {A = Result (Option Open) NoMemory} (Ok o) (Ok None) → lines ≡ begun ++ says.Fault 0 ∷ []
+
+-- no fault of another replica is told
+pub reboot_others : (o : Option Open) (begun lines : List Observation) → begun ≡ [] → OpenedLines o begun lines → UnopenedLines o begun lines → TellsZero lines
+reboot_others None begun lines none told failed q = ap (faults_in (suc q)) (failed refl ∙ ap (λ ls. ls ++ says.Fault 0 ∷ []) none) ∙ fault_first q
+reboot_others (Some r) begun lines none told failed q = ap (faults_in (suc q)) (told ∙ ap (λ ls. ls ++ says.Up 0 ∷ says.View 0 r.shown ∷ []) none)
+
+-- and one of this replica only where its disk failed
+pub reboot_rise : (o : Option Open) (begun lines : List Observation) (before now : ℕ) → begun ≡ [] → OpenedLines o begun lines → UnopenedLines o begun lines → Counted before now (◌≡◌ {A = Result (Option Open) NoMemory} (Ok o) (Ok None)) → RoseBy (faults_in 0 lines) before now
+reboot_rise None begun lines before now none told failed cause = rose_one before now cause.later (cause.rose refl) (faults_in 0 lines) (ap (faults_in 0) (failed refl ∙ ap (λ ls. ls ++ says.Fault 0 ∷ []) none))
+reboot_rise (Some r) begun lines before now none told failed cause = rose_none before now cause.later (faults_in 0 lines) (ap (faults_in 0) (told ∙ ap (λ ls. ls ++ says.Up 0 ∷ says.View 0 r.shown ∷ []) none))

@@ -1,16 +1,14 @@
 -- What the handler of a lawful appointment promises, by what the start of the epoch did.
 use Rattle.std.proofs.Common.{◌≡◌, ◌∙◌, sym, ap, subst, refl, ℕ, suc, ◌*◌, ◌≤◌, ◌<◌, max, Bool, true, cond, List, [], ◌∷◌, ◌++◌, Option, Some, None, is_some, Result, Ok, Err, IfOk, OnOk, OnErr, append-nil, inl, inr, ◌⊎◌, rules}
-use Rattle.std.specs.Prelude.{if◌then◌else◌}
-use Rattle.std.specs.List.{list_any}
 use Rattle.std.specs.Option.{option_map}
 use Rattle.std.proofs.lemmas.Option.{same_Some}
 use Rattle.world.proofs.Answered.{no_memory}
 use Rattle.rc_base.specs.Counts.{Rose}
 use Rattle.rc_base.specs.Members.{AreMembers}
 use Rattle.rc_base.specs.declared.ids.Epoch.{Epoch}
-use Rattle.config_rule.specs.Rule.{Known, broken_appointment, after_appointment, after_active}
+use Rattle.config_rule.specs.Rule.{Known, is_above, are_members, has_quorum, has_answered_last, tells_most, broken_appointment, after_appointment, after_active}
 use Rattle.config_rule.proofs.Rising.{same_members}
-use Rattle.disk_model.specs.Disk.{Areas}
+use Rattle.disk_model.specs.Disk.{Areas, Marks}
 use Rattle.log_store.specs.declared.kept.Kept.{Kept as Log}
 use Rattle.log_store.specs.Durable.{StandForOneOf}
 use Rattle.events.specs.declared.event.Event.{Event}
@@ -25,14 +23,17 @@ use Rattle.world.specs.declared.error.WorldError.{WorldError}
 use Rattle.world.specs.declared.error.WorldError.TheVariants as errors
 use Rattle.world.specs.Fleet.{faults_in, fault_lines, RoseBy, TellsZero}
 use Rattle.world.specs.Kept.{Kept, has_booted}
-use Rattle.world.specs.Steps.{finished, told_start, log_once, log_behind, HoldsSome, most_shown, is_active_line}
+use Rattle.world.specs.declared.effects.EventEffects.{EventEffects}
+use Rattle.world.specs.Handling.{Handles, rule_active}
+use Rattle.world.specs.Steps.{no_effects, effects_started, finished, log_once, log_behind, HoldsSome}
 use Rattle.world.specs.World.{StandsFor, AsReplica, IsOpen, IsAppointed, Serves, StillHolds}
 use Rattle.world.proofs.Appointing.{all_lines}
 use Rattle.world.proofs.Faultless.{rose_none, rose_one, fault_first}
-use Rattle.world.proofs.Later.{ruled_of, replica_of, booted_stands, up_role, max_none}
+use Rattle.world.proofs.Handled.{last_of_kept, marks_same, marks_same_after}
+use Rattle.world.proofs.Later.{ruled_of, replica_of, booted_stands, up_role}
 use Rattle.world.proofs.Ruled.{appointment_same}
 use Rattle.world.proofs.StartLogs.{start}
-use Rattle.world.proofs.StartWorld.{MayAppoint, active_all, faultless_all, start_does, start_fails_behind, start_fails_first, start_short, start_room}
+use Rattle.world.proofs.StartWorld.{MayAppoint, six_hold, faultless_all, start_does, start_fails_behind, start_fails_first, start_short, start_room}
 use Rattle.events.specs.declared.answer.Answer.TheVariants as answers
 
 -- ---- what it begins with
@@ -60,61 +61,53 @@ room_of before old images m e r a s is =
 
 -- ---- the rule
 
--- the rule notes the primary of the epoch as active, where the lines tell it
-abbrev pub noted : Epoch → List Observation → Option Known → Option Known
-noted e lines rule = if list_any is_active_line lines then option_map (λ known. after_active known e) rule else rule
-
-noted_active : (before old : Kept) (e : Epoch) (a : IsAppointed before old e) (order : ℕ) (r : Open) → noted e (all_lines order r) old.rule ≡ Some (after_active (after_appointment a.known e 0 (0 ∷ [])) e)
-noted_active before old e a order r =
-    ap (λ (b : Bool). if b then option_map (λ known. after_active known e) old.rule else old.rule) (active_all order r)
-    ∙ ap (λ (k : Kept). option_map (λ known. after_active known e) k.rule) a.now_is
+-- the rule notes the primary of the epoch as active
+noted_active : (before old : Kept) (e : Epoch) (a : IsAppointed before old e) → rule_active e true old.rule ≡ Some (after_active (after_appointment a.known e 0 (0 ∷ [])) e)
+noted_active before old e a = ap (λ (k : Kept). option_map (λ known. after_active known e) k.rule) a.now_is
 
 -- ---- what it promises
 
+-- what the start of the epoch does
+abbrev pub all_effects : ℕ → Open → Epoch → EventEffects
+all_effects order r e = effects_started (no_effects order) e r
+
 -- all went well
-pub ok_serves : (before old new : Kept) (images now : Areas → Type 0) (number : ℕ) (r x : Open) (e : Epoch) (lines : List Observation) → IsAppointed before old e → old.replica ≡ Some r → old.last < number → AreSame x (record (finished r (start e)) { log = x.log }) →
-    ((log : Log) → IsOpen r log images → IsOpen x (log_behind r (start e) log) now) → ((log : Log) → IsOpen r log images → HoldsSome r (start e) log now) → lines ≡ all_lines old.order r →
-    new.last ≡ number → new.rule ≡ noted e lines old.rule → new.order ≡ max old.order (most_shown lines) → new.replica ≡ Some x → Serves before new images now (Appoint e 0 (0 ∷ [])) (Ok lines)
-ok_serves before old new images now number r x e lines a is rising kept stands holds told last rule order replica =
-    let same = order_same before old e a in
-    let all : lines ≡ all_lines before.order r = told ∙ ap (λ (n : ℕ). all_lines n r) same in
-    start_does before new images now number r x a.known e lines (may_of before old e r a is) (earlier before old e number a rising) kept stands holds all
+pub ok_serves : (before old new : Kept) (images now : Areas → Type 0) (number : ℕ) (r x : Open) (e : Epoch) (effects : EventEffects) → IsAppointed before old e → old.replica ≡ Some r → old.last < number → AreSame x (record (finished r (start e)) { log = x.log }) →
+    ((log : Log) → IsOpen r log images → IsOpen x (log_behind r (start e) log) now) → ((log : Log) → IsOpen r log images → HoldsSome r (start e) log now) → effects ≡ all_effects old.order r e →
+    new.last ≡ number → new.rule ≡ rule_active e effects.active old.rule → new.order ≡ effects.order → new.replica ≡ Some x → Serves before new images now (Appoint e 0 (0 ∷ [])) (Ok effects.lines)
+ok_serves before old new images now number r x e effects a is rising kept stands holds told last rule order replica =
+    let all : effects ≡ all_effects before.order r e = told ∙ ap (λ (n : ℕ). all_effects n r e) (order_same before old e a) in
+    start_does before new images now number r x a.known e effects.lines (may_of before old e r a is) (earlier before old e number a rising) kept stands holds (ap (λ (d : EventEffects). d.lines) all)
     (record {
       last = last;
-      rule = rule ∙ (ap (λ (ls : List Observation). noted e ls old.rule) all ∙ noted_active before old e a before.order r);
-      order = order ∙ (ap (λ (n : ℕ). max n (most_shown lines)) same ∙ ap (λ (ls : List Observation). max before.order (most_shown ls)) all);
+      rule = rule ∙ (ap (λ (d : EventEffects). rule_active e d.active old.rule) all ∙ noted_active before old e a);
+      order = order ∙ ap (λ (d : EventEffects). d.order) all;
       replica = replica;
     })
 
--- the lines before a fault: none, or all
-abbrev pub IsCutAt : ℕ → Open → Epoch → List Observation → (Areas → Type 0) → (Areas → Type 0) → Type 0
-IsCutAt order r e lines images now = ((lines ≡ []) × ((log : Log) → IsOpen r log images → StandForOneOf log (log_once r (start e) log) now)) ⊎ (lines ≡ all_lines order r)
-
--- the same, behind lines that stood there
-abbrev pub cut_from : List Observation → ℕ → Open → Epoch → List Observation → (Areas → Type 0) → (Areas → Type 0) → Type 0
-cut_from old order r e lines images now = ((lines ≡ old) × ((log : Log) → IsOpen r log images → StandForOneOf log (log_once r (start e) log) now)) ⊎ (lines ≡ (old ++ told_start order r) ++ says.Done ∷ [])
+-- what was done before a fault, where this was done before: nothing more, or all
+abbrev pub IsCutAt : EventEffects → Open → Epoch → EventEffects → (Areas → Type 0) → (Areas → Type 0) → Type 0
+IsCutAt old r e effects images now = ((effects ≡ old) × ((log : Log) → IsOpen r log images → StandForOneOf log (log_once r (start e) log) now)) ⊎ (effects ≡ effects_started old e r)
 
 -- the disk failed
-pub cut_serves : (before old new : Kept) (images now : Areas → Type 0) (number : ℕ) (r : Open) (e : Epoch) (lines : List Observation) → IsAppointed before old e → old.replica ≡ Some r → old.last < number →
-    ((log : Log) → IsOpen r log images → HoldsSome r (start e) log now) → IsCutAt old.order r e lines images now →
-    new.last ≡ number → new.rule ≡ noted e lines old.rule → new.order ≡ max old.order (most_shown lines) → new.replica ≡ None → Serves before new images now (Appoint e 0 (0 ∷ [])) (Ok (lines ++ says.Fault 0 ∷ []))
-cut_serves before old new images now number r e lines a is rising holds (inl first) last rule order replica =
-    let same = order_same before old e a in
-    start_fails_first before new images now number r a.known e (lines ++ says.Fault 0 ∷ []) (may_of before old e r a is) (earlier before old e number a rising) holds first.1 (ap (λ ls. ls ++ says.Fault 0 ∷ []) first.0)
+pub cut_serves : (before old new : Kept) (images now : Areas → Type 0) (number : ℕ) (r : Open) (e : Epoch) (effects : EventEffects) → IsAppointed before old e → old.replica ≡ Some r → old.last < number →
+    ((log : Log) → IsOpen r log images → HoldsSome r (start e) log now) → IsCutAt (no_effects old.order) r e effects images now →
+    new.last ≡ number → new.rule ≡ rule_active e effects.active old.rule → new.order ≡ effects.order → new.replica ≡ None → Serves before new images now (Appoint e 0 (0 ∷ [])) (Ok (effects.lines ++ says.Fault 0 ∷ []))
+cut_serves before old new images now number r e effects a is rising holds (inl first) last rule order replica =
+    start_fails_first before new images now number r a.known e (effects.lines ++ says.Fault 0 ∷ []) (may_of before old e r a is) (earlier before old e number a rising) holds first.1 (ap (λ (d : EventEffects). d.lines ++ says.Fault 0 ∷ []) first.0)
     (record {
       last = last;
-      rule = rule ∙ (ap (λ (ls : List Observation). noted e ls old.rule) first.0 ∙ ap (λ (k : Kept). k.rule) a.now_is);
-      order = order ∙ (ap (λ (ls : List Observation). max old.order (most_shown ls)) first.0 ∙ (max_none old.order ∙ same));
+      rule = rule ∙ (ap (λ (d : EventEffects). rule_active e d.active old.rule) first.0 ∙ ap (λ (k : Kept). k.rule) a.now_is);
+      order = order ∙ (ap (λ (d : EventEffects). d.order) first.0 ∙ order_same before old e a);
       replica = replica;
     })
-cut_serves before old new images now number r e lines a is rising holds (inr told) last rule order replica =
-    let same = order_same before old e a in
-    let all : lines ≡ all_lines before.order r = told ∙ ap (λ (n : ℕ). all_lines n r) same in
-    start_fails_behind before new images now number r a.known e (lines ++ says.Fault 0 ∷ []) (may_of before old e r a is) (earlier before old e number a rising) holds (ap (λ ls. ls ++ says.Fault 0 ∷ []) all)
+cut_serves before old new images now number r e effects a is rising holds (inr told) last rule order replica =
+    let all : effects ≡ all_effects before.order r e = told ∙ ap (λ (n : ℕ). all_effects n r e) (order_same before old e a) in
+    start_fails_behind before new images now number r a.known e (effects.lines ++ says.Fault 0 ∷ []) (may_of before old e r a is) (earlier before old e number a rising) holds (ap (λ (d : EventEffects). d.lines ++ says.Fault 0 ∷ []) all)
     (record {
       last = last;
-      rule = rule ∙ (ap (λ (ls : List Observation). noted e ls old.rule) all ∙ noted_active before old e a before.order r);
-      order = order ∙ (ap (λ (n : ℕ). max n (most_shown lines)) same ∙ ap (λ (ls : List Observation). max before.order (most_shown ls)) all);
+      rule = rule ∙ (ap (λ (d : EventEffects). rule_active e d.active old.rule) all ∙ noted_active before old e a);
+      order = order ∙ ap (λ (d : EventEffects). d.order) all;
       replica = replica;
     })
 
@@ -136,17 +129,52 @@ others_all order r lines told q = ap (faults_in (suc q)) (told ∙ sym (append-n
 pub rise_all : (order : ℕ) (r : Open) (lines : List Observation) (before now : ℕ) → lines ≡ all_lines order r → before ≤ now → RoseBy (faults_in 0 lines) before now
 rise_all order r lines before now told later = rose_none before now later (faults_in 0 lines) (ap (faults_in 0) (told ∙ sym (append-nil (all_lines order r))) ∙ faultless_all 0 order r [])
 
-cut_faults : (q order : ℕ) (r : Open) (e : Epoch) (lines : List Observation) (images now : Areas → Type 0) → IsCutAt order r e lines images now → faults_in q (lines ++ says.Fault 0 ∷ []) ≡ faults_in q (says.Fault 0 ∷ [])
-cut_faults q order r e lines images now (inl first) = ap (λ ls. faults_in q (ls ++ says.Fault 0 ∷ [])) first.0
-cut_faults q order r e lines images now (inr told) = ap (λ ls. faults_in q (ls ++ says.Fault 0 ∷ [])) told ∙ faultless_all q order r (says.Fault 0 ∷ [])
+cut_faults : (q order : ℕ) (r : Open) (e : Epoch) (effects : EventEffects) (images now : Areas → Type 0) → IsCutAt (no_effects order) r e effects images now → faults_in q (effects.lines ++ says.Fault 0 ∷ []) ≡ faults_in q (says.Fault 0 ∷ [])
+cut_faults q order r e effects images now (inl first) = ap (λ (d : EventEffects). faults_in q (d.lines ++ says.Fault 0 ∷ [])) first.0
+cut_faults q order r e effects images now (inr told) = ap (λ (d : EventEffects). faults_in q (d.lines ++ says.Fault 0 ∷ [])) told ∙ faultless_all q order r (says.Fault 0 ∷ [])
 
-pub others_cut_at : (order : ℕ) (r : Open) (e : Epoch) (lines : List Observation) (images now : Areas → Type 0) (result : Result (List Observation) WorldError) → IsCutAt order r e lines images now → IfOk result (λ given. given ≡ lines ++ says.Fault 0 ∷ []) → IfOk result TellsZero
-others_cut_at order r e lines images now (Ok given) cut is = λ q. ap (faults_in (suc q)) is ∙ (cut_faults (suc q) order r e lines images now cut ∙ fault_first q)
-others_cut_at order r e lines images now (Err x) cut is = tt
+pub others_cut_at : (order : ℕ) (r : Open) (e : Epoch) (effects : EventEffects) (images now : Areas → Type 0) (result : Result (List Observation) WorldError) → IsCutAt (no_effects order) r e effects images now → IfOk result (λ given. given ≡ effects.lines ++ says.Fault 0 ∷ []) → IfOk result TellsZero
+others_cut_at order r e effects images now (Ok given) cut is = λ q. ap (faults_in (suc q)) is ∙ (cut_faults (suc q) order r e effects images now cut ∙ fault_first q)
+others_cut_at order r e effects images now (Err x) cut is = tt
 
-pub rise_cut : (order : ℕ) (r : Open) (e : Epoch) (lines : List Observation) (images now : Areas → Type 0) (before after : ℕ) (result : Result (List Observation) WorldError) → IsCutAt order r e lines images now → before ≤ after → Rose before after → IfOk result (λ given. given ≡ lines ++ says.Fault 0 ∷ []) → RoseBy (fault_lines 0 result) before after
-rise_cut order r e lines images now before after (Ok given) cut later rose is = rose_one before after later rose (faults_in 0 given) (ap (faults_in 0) is ∙ cut_faults 0 order r e lines images now cut)
-rise_cut order r e lines images now before after (Err x) cut later rose is = rose_none before after later 0 refl
+pub rise_cut : (order : ℕ) (r : Open) (e : Epoch) (effects : EventEffects) (images now : Areas → Type 0) (before after : ℕ) (result : Result (List Observation) WorldError) → IsCutAt (no_effects order) r e effects images now → before ≤ after → Rose before after → IfOk result (λ given. given ≡ effects.lines ++ says.Fault 0 ∷ []) → RoseBy (fault_lines 0 result) before after
+rise_cut order r e effects images now before after (Ok given) cut later rose is = rose_one before after later rose (faults_in 0 given) (ap (faults_in 0) is ∙ cut_faults 0 order r e effects images now cut)
+rise_cut order r e effects images now before after (Err x) cut later rose is = rose_none before after later 0 refl
+
+-- ---- what the handler promises
+
+-- an appointed replica is open
+pub appointed_up : (before old : Kept) (e : Epoch) → IsAppointed before old e → is_some old.replica ≡ true
+appointed_up before old e a =
+    ap (λ (k : Kept). is_some k.replica) a.now_is ∙ (six_hold (is_above a.known.appointed e) (are_members (0 ∷ []) 0) (has_quorum a.known.answers a.known.current e) (has_answered_last a.known.answers e 0) (tells_most a.known.answers e 0) (is_some before.replica) a.lawful).1
+
+pub start_handles : {M : Type 0} (images : M → Areas → Type 0) (faults : M → ℕ) (marks : M → Marks) (before old new : Kept) (disk now : M) (number : ℕ) (r x : Open) (e : Epoch) (effects : EventEffects) (given : List Observation) →
+    IsAppointed before old e → old.replica ≡ Some r → old.last < number → AreSame x (record (finished r (start e)) { log = x.log }) → ((log : Log) → IsOpen r log (images disk) → IsOpen x (log_behind r (start e) log) (images now)) → ((log : Log) → IsOpen r log (images disk) → HoldsSome r (start e) log (images now)) →
+    effects ≡ all_effects old.order r e → given ≡ effects.lines → new.last ≡ number → new.rule ≡ rule_active e effects.active old.rule → new.order ≡ effects.order → new.replica ≡ Some x → faults disk ≤ faults now → marks now ≡ marks disk →
+    Handles images faults marks before new disk now number (Appoint e 0 (0 ∷ [])) (Ok given)
+start_handles images faults marks before old new disk now number r x e effects given a is rising kept stands holds told lines last rule order replica later same =
+    let all : effects.lines ≡ all_lines old.order r = ap (λ (d : EventEffects). d.lines) told in
+    subst (λ (ls : List Observation). Handles images faults marks before new disk now number (Appoint e 0 (0 ∷ [])) (Ok ls)) (sym lines)
+    (record {
+      serves = ok_serves before old new (images disk) (images now) number r x e effects a is rising kept stands holds told last rule order replica;
+      last = last;
+      others = others_all old.order r effects.lines all;
+      counted = rise_all old.order r effects.lines (faults disk) (faults now) all later;
+      armed = same ∙ marks_same (Appoint e 0 (0 ∷ [])) effects.lines (marks disk) refl;
+    })
+
+pub cut_handles : {M : Type 0} (images : M → Areas → Type 0) (faults : M → ℕ) (marks : M → Marks) (before old new then : Kept) (disk now : M) (number : ℕ) (r : Open) (e : Epoch) (effects : EventEffects) (result : Result (List Observation) WorldError) →
+    IsAppointed before old e → old.replica ≡ Some r → old.last < number → ((log : Log) → IsOpen r log (images disk) → HoldsSome r (start e) log (images now)) → IsCutAt (no_effects old.order) r e effects (images disk) (images now) →
+    IfOk result (λ given. given ≡ effects.lines ++ says.Fault 0 ∷ []) → OnOk result (new ≡ then) → OnErr result (result ≡ Err errors.NoMemory) → then.last ≡ number → then.rule ≡ rule_active e effects.active old.rule → then.order ≡ effects.order → then.replica ≡ None → faults disk ≤ faults now → Rose (faults disk) (faults now) → marks now ≡ marks disk →
+    Handles images faults marks before new disk now number (Appoint e 0 (0 ∷ [])) result
+cut_handles images faults marks before old new then disk now number r e effects result a is rising holds cut told kept memory last rule order replica later rose same = record {
+  serves = result_serves before new then (images disk) (images now) (Appoint e 0 (0 ∷ [])) (effects.lines ++ says.Fault 0 ∷ []) result told kept memory (short_serves before old (images disk) (images now) r e a is holds)
+    (cut_serves before old then (images disk) (images now) number r e effects a is rising holds cut last rule order replica);
+  last = last_of_kept new then number result kept last;
+  others = others_cut_at old.order r e effects (images disk) (images now) result cut told;
+  counted = rise_cut old.order r e effects (images disk) (images now) (faults disk) (faults now) result cut later rose told;
+  armed = same ∙ marks_same_after (Appoint e 0 (0 ∷ [])) result (marks disk) refl;
+}
 
 -- ---- the rule is asked
 

@@ -25,7 +25,7 @@ use Rattle.world.specs.Course.{AreNoted}
 use Rattle.world.specs.Fleet.{faults_in}
 use Rattle.world.specs.Kept.{Kept, has_booted}
 use Rattle.world.specs.Standing.{Course, standing, serving, shut}
-use Rattle.world.specs.Steps.{finished, told_rise, order_line, cons_if, log_once, log_behind, HoldsSome, most_shown, is_active_line}
+use Rattle.world.specs.Steps.{finished, told_rise, order_line, cons_if, log_once, log_behind, HoldsSome}
 use Rattle.world.specs.World.{StandsFor, AsReplica, AsRole, IsRuled, IsOpen, Serves, StillHolds}
 use Rattle.world.proofs.Appointing.{Appoints, course_of, course_then, course_now, entries_now, above_course, may_start, shown_now, shown_before, lines_are, all_lines, appoint_serves, appoint_faults_behind, appoint_faults_first}
 use Rattle.world.proofs.Later.{ruled_of, open_of, as_replica, booted_stands, up_role}
@@ -36,43 +36,7 @@ use Rattle.world.proofs.StartLogs.{start}
 use Rattle.world.proofs.StartStates.{loss_same, start_still, start_serving, start_closed_first, start_closed_behind}
 use Rattle.events.specs.declared.answer.Answer.TheVariants as answers
 
--- ---- what the lines tell the world
-
-most_orders : (cs : List Committed) (lines : List Observation) → most_shown (map order_line cs ++ lines) ≡ most_shown lines
-most_orders [] lines = refl
-most_orders (c ∷ cs) lines = let rest = most_orders cs lines in omega (arith, rest)
-
-most_rise : (n : ℕ) (b : Bool) → most_shown ((cons_if b (says.View 0 n) ++ says.Active 0 ∷ []) ++ says.Done ∷ []) ≡ cond b n 0
-most_rise n true = omega arith
-most_rise n false = omega arith
-
-not_above : (a b : ℕ) → nat_lt a b ≡ false → b ≤ a
-not_above a b up = grind (arith, nat_tests)
-
--- the order has as many then as are shown
-pub most_all : (order shown n : ℕ) (more : List Committed) → shown ≤ order → order ≤ n → max order (most_shown (start_lines shown more n ++ says.Done ∷ [])) ≡ n
-most_all order shown n more few many =
-    ap (λ (ls : List Observation). max order (most_shown ls)) (append_assoc (map order_line more) (told_rise 0 shown false n true) (says.Done ∷ []))
-    ∙ (ap (max order) (most_orders more (told_rise 0 shown false n true ++ says.Done ∷ []) ∙ most_rise n (nat_lt shown n)) ∙ by (nat_lt shown n) refl)
-  where
-    by : (b : Bool) → nat_lt shown n ≡ b → max order (cond b n 0) ≡ n
-    by true up = omega arith
-    by false up = let whole : n ≤ shown = not_above shown n up in omega arith
-
-active_orders : (cs : List Committed) (lines : List Observation) → list_any is_active_line (map order_line cs ++ lines) ≡ list_any is_active_line lines
-active_orders [] lines = refl
-active_orders (c ∷ cs) lines = active_orders cs lines
-
-active_rise : (id n : ℕ) (b : Bool) → list_any is_active_line ((cons_if b (says.View id n) ++ says.Active id ∷ []) ++ says.Done ∷ []) ≡ true
-active_rise id n true = refl
-active_rise id n false = refl
-
--- they tell that the primary became active
-pub active_all : (order : ℕ) (r : Open) → list_any is_active_line (all_lines order r) ≡ true
-active_all order r =
-    let n = r.shown + length r.ahead in
-    ap (list_any is_active_line) (append_assoc (map order_line (drop (order - r.shown) r.ahead)) (told_rise r.id r.shown false n true) (says.Done ∷ []))
-    ∙ (active_orders (drop (order - r.shown) r.ahead) (told_rise r.id r.shown false n true ++ says.Done ∷ []) ∙ active_rise r.id n (nat_lt r.shown n))
+-- ---- no fault is told
 
 faultless_orders : (q : ℕ) (cs : List Committed) (lines : List Observation) → faults_in q (map order_line cs ++ lines) ≡ faults_in q lines
 faultless_orders q [] lines = refl
@@ -93,7 +57,7 @@ faultless_all q order r more =
 
 -- ---- a lawful appointment
 
-six_hold : (a b c d f up : Bool) → first_broken 1 (a ∷ b ∷ c ∷ d ∷ f ∷ up ∷ []) ≡ None → (a ≡ true) × (up ≡ true)
+pub six_hold : (a b c d f up : Bool) → first_broken 1 (a ∷ b ∷ c ∷ d ∷ f ∷ up ∷ []) ≡ None → (a ≡ true) × (up ≡ true)
 six_hold a b c d f up e =
     let one = first_holds 1 a (b ∷ c ∷ d ∷ f ∷ up ∷ []) e in
     let two = first_holds 2 b (c ∷ d ∷ f ∷ up ∷ []) one.1 in
@@ -199,17 +163,15 @@ more_many entries [] = omega arith
 more_many entries (c ∷ more) = omega (arith, length-append entries (as_entry c ∷ []))
 
 -- the order has grown to what is shown
-grown_order : (k : Kept) (images : Areas → Type 0) (m : Machine) (r : Open) (e : Epoch) (h : Appoints k.last r images m e) → k.order ≡ length h.rests.entries → max k.order (most_shown (all_lines k.order r)) ≡ length (entries_now h)
+grown_order : (k : Kept) (images : Areas → Type 0) (m : Machine) (r : Open) (e : Epoch) (h : Appoints k.last r images m e) → k.order ≡ length h.rests.entries → max k.order (r.shown + length r.ahead) ≡ length (entries_now h)
 grown_order k images m r e h counted =
     let n = shown_now k.last r images m e h in
-    let b = shown_before k.last r images m e h in
     let grows = more_many h.rests.entries h.rests.sound.more in
-    ap (λ (ls : List Observation). max k.order (most_shown (ls ++ says.Done ∷ []))) (lines_are k.last r images m e k.order h counted)
-    ∙ (most_all k.order r.shown (r.shown + length r.ahead) h.rests.sound.more (omega (arith, b, counted)) (omega (arith, n, counted, grows)) ∙ n)
+    grind (arith, n, counted, grows)
 
 pub start_does : (k new : Kept) (images now : Areas → Type 0) (number : ℕ) (r x : Open) (known : Known) (e : Epoch) (lines : List Observation) → MayAppoint k r known e → k.last < number → AreSame x (record (finished r (start e)) { log = x.log }) →
     ((log : Log) → IsOpen r log images → IsOpen x (log_behind r (start e) log) now) → ((log : Log) → IsOpen r log images → HoldsSome r (start e) log now) → lines ≡ all_lines k.order r →
-    IsNow new number (max k.order (most_shown (all_lines k.order r))) (active_known known e) (Some x) → Serves k new images now (Appoint e 0 (0 ∷ [])) (Ok lines)
+    IsNow new number (max k.order (r.shown + length r.ahead)) (active_known known e) (Some x) → Serves k new images now (Appoint e 0 (0 ∷ [])) (Ok lines)
 start_does k new images now number r x known e lines a rising kept stands holds told i =
     subst (λ ls. Serves k new images now (Appoint e 0 (0 ∷ [])) (Ok ls)) (sym told)
     (λ m s.
@@ -224,7 +186,7 @@ start_does k new images now number r x known e lines a rising kept stands holds 
 -- the disk failed behind all lines
 pub start_fails_behind : (k new : Kept) (images now : Areas → Type 0) (number : ℕ) (r : Open) (known : Known) (e : Epoch) (lines : List Observation) → MayAppoint k r known e → k.last < number →
     ((log : Log) → IsOpen r log images → HoldsSome r (start e) log now) → lines ≡ all_lines k.order r ++ says.Fault 0 ∷ [] →
-    IsNow new number (max k.order (most_shown (all_lines k.order r))) (active_known known e) None → Serves k new images now (Appoint e 0 (0 ∷ [])) (Ok lines)
+    IsNow new number (max k.order (r.shown + length r.ahead)) (active_known known e) None → Serves k new images now (Appoint e 0 (0 ∷ [])) (Ok lines)
 start_fails_behind k new images now number r known e lines a rising holds told i =
     subst (λ ls. Serves k new images now (Appoint e 0 (0 ∷ [])) (Ok ls)) (sym told)
     (λ m s.

@@ -1,7 +1,8 @@
 -- What a step of a replica keeps, and when a Barrier may follow it.
-use Rattle.std.proofs.Common.{◌≡◌, ◌∙◌, sym, ap, subst, refl, ℕ, zero, suc, ◌+◌, ◌≤◌, List, ◌++◌, length, Bool, true, false, cond, Option, Some, None, Result, Err, Ok, arith, inl, inr, ⊎_elim}
+use Rattle.std.proofs.Common.{◌≡◌, ◌∙◌, sym, ap, subst, refl, ℕ, zero, suc, ◌+◌, ◌≤◌, max, List, ◌++◌, length, append-nil, Bool, true, false, not, ◌&&◌, ◌||◌, cond, Option, Some, None, Result, Err, Ok, arith, inl, inr, ⊎_elim}
 use Rattle.std.specs.Option.{option_map_or}
 use Rattle.std.proofs.lemmas.Bool.{false≢true}
+use Rattle.std.proofs.Math.Bool.{or-false}
 use Rattle.rc_base.specs.Counts.{Counted}
 use Rattle.rc_base.specs.declared.ids.Epoch.{Epoch}
 use Rattle.rc_base.specs.Ids.{no_epoch, epoch_lt}
@@ -19,13 +20,14 @@ use Rattle.replica.specs.declared.role.Role.TheVariants.{Other}
 use Rattle.replica.specs.declared.step.StepEvent.{StepEvent}
 use Rattle.replica.specs.declared.step.StepEvent.TheVariants as steps
 use Rattle.replica.specs.Open.{Open, AreSame, AgreesWith}
-use Rattle.replica.specs.Step.{MayStep, stepped, block, answered, logged_by, lengthened, is_active}
-use Rattle.world.specs.Steps.{is_due, told_by, finished, log_once, log_twice, IsCutOff, HoldsSome}
+use Rattle.replica.specs.Step.{MayStep, stepped, block, answered, logged_by, lengthened, is_active, outcome}
+use Rattle.world.specs.declared.effects.EventEffects.{EventEffects}
+use Rattle.world.specs.Steps.{effects_after, is_due, told_by, finished, log_once, log_twice, IsCutOff, HoldsSome}
 use Rattle.world.specs.World.{IsOpen}
 use Rattle.replica.proofs.Lengthened.{steps_to, logged_few}
 use Rattle.world.proofs.Calls.{longer}
-use Rattle.world.proofs.CutOff.{due_active as due_call}
-use Rattle.world.proofs.Plain.{committed_open}
+use Rattle.world.proofs.CutOff.{call_shows, due_active as due_call}
+use Rattle.world.proofs.Plain.{committed_open, quiet_lines}
 
 -- ---- its number stays
 
@@ -84,9 +86,37 @@ finished_twice r o p event due first second =
     subst (λ (x : Open). AreSame p (record x { log = p.log })) (sym (ap (λ b. cond b (stepped (stepped r event) steps.Barrier) (stepped r event)) due)) (same_twice r o p event first second)
 
 -- The disk failed in the second step.
-pub cut_second : (r o : Open) (event : StepEvent) (log : Log) (old once new : List Observation) (images : Areas → Type 0) → is_due r event ≡ true → AreSame o (record (stepped r event) { log = o.log }) → once ≡ old ++ told_by r event → new ≡ once → StandForOneOf (log_once r event log) (log_once o steps.Barrier (log_once r event log)) images → IsCutOff r event log old new images
+pub cut_second : (r o : Open) (event : StepEvent) (log : Log) (old once new : EventEffects) (images : Areas → Type 0) → is_due r event ≡ true → AreSame o (record (stepped r event) { log = o.log }) → once ≡ effects_after old r event → new ≡ once → StandForOneOf (log_once r event log) (log_once o steps.Barrier (log_once r event log)) images → IsCutOff r event log old new images
 cut_second r o event log old once new images due kept told untold stands =
     inr (due, untold ∙ told, subst (λ bs. StandForOneOf (log_once r event log) (after (log_once r event log) bs) images) (barrier_block (stepped r event) o kept) stands)
+
+stays_active : (b c : Bool) → (c || (b && not b)) ≡ c
+stays_active true c = or-false c
+stays_active false c = or-false c
+
+-- a Barrier has no effects, once what the replica shows is in the order
+pub barrier_effects : (d : EventEffects) (o : Open) → o.shown ≤ d.order → effects_after d o steps.Barrier ≡ d
+barrier_effects d o low =
+    let order : max d.order o.shown ≡ d.order = grind (arith, low) in
+    let lines : d.lines ++ told_by o steps.Barrier ≡ d.lines = ap (λ ls. d.lines ++ ls) (quiet_lines o None) ∙ append-nil d.lines in
+    ap (λ (n : ℕ). record (effects_after d o steps.Barrier) { order = n }) order
+    ∙ (ap (λ (b : Bool). record (effects_after d o steps.Barrier) { order = d.order; active = b }) (stays_active (is_active o.role) d.active)
+    ∙ ap (λ (ls : List Observation). record d { lines = ls }) lines)
+
+-- where a Barrier is due the replica shows what it tells
+pub due_shows : (r : Open) (event : StepEvent) → is_due r event ≡ true → (outcome r event).shown ≡ (stepped r event).shown
+due_shows r (steps.Client call) due = call_shows r call due
+due_shows r (steps.Survey epoch) due = absurd (false≢true due)
+due_shows r (steps.Start epoch) due = refl
+due_shows r steps.Barrier due = absurd (false≢true due)
+
+-- what both steps do, where the second is a Barrier
+pub effects_twice : (r o : Open) (event : StepEvent) (old once : EventEffects) → AreSame o (record (stepped r event) { log = o.log }) → once ≡ effects_after old r event → (outcome r event).shown ≡ (stepped r event).shown → effects_after once o steps.Barrier ≡ effects_after old r event
+effects_twice r o event old once kept told shows =
+    let now = ap (λ (x : Open). x.shown) kept.same in
+    let all = ap (λ (d : EventEffects). d.order) told in
+    let low : o.shown ≤ once.order = grind (arith, now, all, shows) in
+    barrier_effects once o low ∙ told
 
 -- a fault in the second step, counted from the first
 pub counted_second : {T : Type 0} {S : Type 0} (before once now : ℕ) → before ≤ once → Counted once now S → (T → S) → Counted before now T

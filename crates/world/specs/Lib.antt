@@ -6,3 +6,4 @@ pub mod Fleet
 pub mod Kept
 pub mod Steps
 pub mod World
+pub mod Handling

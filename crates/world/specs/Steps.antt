@@ -1,5 +1,5 @@
 -- The steps of an open replica in an event, and the lines that they print.
-use Rattle.std.specs.Prelude.{◌≡◌, ◌≢◌, ◌⊎◌, ℕ, ◌+◌, ◌-◌, nat_lt, max, drop, length, Bool, true, false, not, ◌&&◌, List, [], ◌∷◌, ◌++◌, map, option_map, Ok, if◌then◌else◌}
+use Rattle.std.specs.Prelude.{◌≡◌, ◌≢◌, ◌⊎◌, ℕ, ◌+◌, ◌-◌, nat_lt, max, drop, length, Bool, true, false, not, ◌&&◌, ◌||◌, List, [], ◌∷◌, ◌++◌, map, Option, Some, None, option_map, Ok, if◌then◌else◌}
 use Rattle.std.specs.List.{cons_option}
 use Rattle.disk_model.specs.Disk.{Areas, Each}
 use Rattle.txn_table.specs.declared.committed.Committed.{Committed}
@@ -14,6 +14,11 @@ use Rattle.replica.specs.declared.step.StepEvent.TheVariants as steps
 use Rattle.replica.specs.Open.{Open}
 use Rattle.replica.specs.Step.{block, outcome, stepped, is_active}
 use Rattle.order_machine.specs.AnswerLines.{line_of_answer}
+use Rattle.rc_base.specs.declared.ids.Epoch.{Epoch}
+use Rattle.rc_base.specs.declared.ids.Lsn.{Lsn}
+use Rattle.events.specs.declared.answer.Answer.{Answer}
+use Rattle.events.specs.declared.answer.Answer.TheVariants as answers
+use Rattle.world.specs.declared.effects.EventEffects.{EventEffects}
 
 -- ---- lines
 
@@ -46,19 +51,32 @@ abbrev pub told_start : ℕ → Open → List Observation
 told_start order r =
     map order_line (drop (order - r.shown) r.ahead) ++ told_rise r.id r.shown false (r.shown + length r.ahead) true
 
--- how many transactions a replica shows by a line, and the most by some lines
-abbrev pub shown_by : Observation → ℕ
-shown_by (says.View id shown) = shown
-shown_by _ = 0
+-- how far a replica's log reaches by its answer, where it tells that: the epoch and the position of the last record
+abbrev pub progress_in : Option Answer → Option (Epoch × Lsn)
+progress_in (Some (answers.Progress r last_epoch last)) = Some (last_epoch, record { 0 = last })
+progress_in _ = None
 
-abbrev pub most_shown : List Observation → ℕ
-most_shown [] = 0
-most_shown (line ∷ lines) = max (shown_by line) (most_shown lines)
+-- ---- what an event has done so far
 
--- whether a primary becomes active by a line
-abbrev pub is_active_line : Observation → Bool
-is_active_line (says.Active id) = true
-is_active_line _ = false
+-- nothing yet, where the order has so many transactions
+abbrev pub no_effects : ℕ → EventEffects
+no_effects order = record { order = order; active = false; lines = [] }
+
+-- after a step of a replica
+abbrev pub effects_after : EventEffects → Open → StepEvent → EventEffects
+effects_after p r event = record {
+  order = max p.order (outcome r event).shown;
+  active = p.active || ((outcome r event).active && not (is_active r.role));
+  lines = p.lines ++ told_by r event;
+}
+
+-- after the step with which a replica starts an epoch, and its answer
+abbrev pub effects_started : EventEffects → Epoch → Open → EventEffects
+effects_started p epoch r = record {
+  order = max p.order (outcome r (steps.Start epoch)).shown;
+  active = p.active || (outcome r (steps.Start epoch)).active;
+  lines = (p.lines ++ told_start p.order r) ++ says.Done ∷ [];
+}
 
 -- ---- a step, and the Barrier behind it where one is due
 
@@ -79,10 +97,10 @@ abbrev pub log_behind : Open → StepEvent → Log → Log
 log_behind r event log = if is_due r event then log_twice r event log else log_once r event log
 
 -- The disk failed in the first step, before any line of it, or in the second, behind the lines of the first.
-abbrev pub IsCutOff : Open → StepEvent → Log → List Observation → List Observation → (Areas → Type 0) → Type 0
+abbrev pub IsCutOff : Open → StepEvent → Log → EventEffects → EventEffects → (Areas → Type 0) → Type 0
 IsCutOff r event log old new images =
     ((new ≡ old) × (block r event ≢ []) × StandForOneOf log (log_once r event log) images)
-    ⊎ ((is_due r event ≡ true) × (new ≡ old ++ told_by r event) × StandForOneOf (log_once r event log) (log_twice r event log) images)
+    ⊎ ((is_due r event ≡ true) × (new ≡ effects_after old r event) × StandForOneOf (log_once r event log) (log_twice r event log) images)
 
 -- each image holds the log, or that behind the first step, or behind both
 abbrev pub HoldsSome : Open → StepEvent → Log → (Areas → Type 0) → Type 0

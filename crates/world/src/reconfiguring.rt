@@ -1,25 +1,23 @@
 // Surveys, appointments and activations.
-ghost use Rattle.std.specs.Prelude.{◌≡◌, ◌<◌, ◌≤◌, ◌∷◌, [], IfOk, OnOk, option_map, if◌then◌else◌};
-ghost use Rattle.std.specs.List.{list_any};
-ghost use Rattle.config_rule.specs.Rule.{after_answer, after_active};
+ghost use Rattle.std.specs.Prelude.{◌≡◌, ◌<◌, ◌≤◌, ◌∷◌, [], Err, IfOk, OnOk, OnErr, option_map};
+ghost use Rattle.config_rule.specs.Rule.{after_answer};
 ghost use Rattle.order_machine.specs.Machine.{Machine};
 ghost use Rattle.events.specs.declared.event.Event.TheVariants.{Survey, Appoint, Activate};
-ghost use Rattle.world.specs.Fleet.{fault_lines, RoseBy, TellsZero};
 ghost use Rattle.world.specs.Kept.{Kept};
-ghost use Rattle.world.specs.Steps.{is_active_line};
-ghost use Rattle.world.specs.World.{StandsFor, Serves, IsAppointed};
+ghost use Rattle.world.specs.Handling.{IsReady, Handles, refusal_of, rule_surveyed, rule_active};
+ghost use Rattle.world.specs.World.{StandsFor, IsAppointed};
 
 use crate::error::WorldError;
+use crate::effects::EventEffects;
 use crate::starting::start_epoch;
-use crate::steps::take_step;
-use crate::telling::tells_active;
+use crate::steps::take_survey;
 use crate::world::World;
 use config_rule::RuleError;
 use disk_model::CrashDisk;
 use events::Replicas;
 use order_machine::{Observation, Observations};
 use rc_base::{Epoch, Lsn, NoMemory, ReplicaId};
-use replica::{StepError, StepEvent};
+use replica::StepError;
 
 impl World {
     pub(crate) fn survey<M: CrashDisk>(
@@ -30,42 +28,38 @@ impl World {
         epoch: Epoch,
     ) -> Result<Observations, WorldError>
         requires first { replica ≡ 0 }
-        requires rising { self.old.last < number }
-        requires within { number ≤ 1000000 }
-        requires stands { (m : Machine) × StandsFor self.old (M.images disk.old) m }
-        ensures serves { Serves self.old self.new (M.images disk.old) (M.images disk.new) (Survey 0 epoch) result }
-        ensures last { OnOk result (self.new.last ≡ number) }
-        ensures others { IfOk result TellsZero }
-        ensures faults { RoseBy (fault_lines 0 result) (M.faults disk.old) (M.faults disk.new) }
-        ensures marks { M.marks disk.new ≡ M.marks disk.old }
+        requires allowed { refusal_of self.old (Survey 0 epoch) ≡ None }
+        requires ready { IsReady self.old (M.images disk.old) number }
+        ensures { Handles M.images M.faults M.marks self.old self.new disk.old disk.new number (Survey 0 epoch) result }
     {
-        let Some(rule) = &self.rule else {
-            return self.answered(number, Observation::Refused(9));
-        };
-        if !rule.survey_ok(epoch) {
-            return self.answered(number, Observation::Refused(1));
-        }
+        let mut effects = EventEffects::new(self.alloc, self.order);
         let Some(open) = &mut self.replica else {
-            return self.answered(number, Observation::Down(replica));
+            unreachable!();
         };
-        let (fence, last_epoch, last) = (open.fence(), open.epoch(), open.last());
-        let mut lines = Observations::new(self.alloc);
-        match take_step(
-            replica,
-            open,
-            disk,
-            &StepEvent::Survey { epoch },
-            &mut lines,
-        ) {
-            Ok(_) => {}
-            Err(StepError::Disk) => return self.faulted(number, replica, lines),
-            Err(StepError::NoMemory) => return Err(WorldError::NoMemory),
+        match take_survey(replica, open, disk, epoch, &mut effects) {
+            Ok(answered) => self.surveyed(number, replica, epoch, answered, effects),
+            Err(StepError::Disk) => self.faulted(number, replica, effects),
+            Err(StepError::NoMemory) => Err(WorldError::NoMemory),
         }
-        if fence <= epoch {
+    }
+
+    // The survey of an epoch was done at the replica: the rule notes what it answered, where it did.
+    fn surveyed(
+        &mut self,
+        number: u64,
+        replica: ReplicaId,
+        epoch: Epoch,
+        answered: Option<(Epoch, Lsn)>,
+        effects: EventEffects,
+    ) -> Result<Observations, WorldError>
+        ensures kept { OnOk result (self.new ≡ record self.old { last = number; rule = rule_surveyed epoch replica answered self.old.rule; order = effects.order }) }
+        ensures lines { IfOk result (λ lines. lines ≡ effects.lines) }
+        ensures memory { OnErr result (result ≡ Err WorldError.NoMemory) }
+    {
+        if let Some((last_epoch, last)) = answered {
             self.note_answer(epoch, replica, last_epoch, last)?;
         }
-        self.last = number;
-        Ok(lines)
+        Ok(self.finish(number, effects))
     }
 
     // The rule notes the answer to a survey.
@@ -94,17 +88,12 @@ impl World {
     ) -> Result<Observations, WorldError>
         requires first { primary ≡ 0 }
         requires alone { members.now ≡ 0 ∷ [] }
-        requires rising { self.old.last < number }
-        requires within { number ≤ 1000000 }
-        requires stands { (m : Machine) × StandsFor self.old (M.images disk.old) m }
-        ensures serves { Serves self.old self.new (M.images disk.old) (M.images disk.new) (Appoint epoch 0 (0 ∷ [])) result }
-        ensures last { OnOk result (self.new.last ≡ number) }
-        ensures others { IfOk result TellsZero }
-        ensures faults { RoseBy (fault_lines 0 result) (M.faults disk.old) (M.faults disk.new) }
-        ensures marks { M.marks disk.new ≡ M.marks disk.old }
+        requires allowed { refusal_of self.old (Appoint epoch 0 (0 ∷ [])) ≡ None }
+        requires ready { IsReady self.old (M.images disk.old) number }
+        ensures { Handles M.images M.faults M.marks self.old self.new disk.old disk.new number (Appoint epoch 0 (0 ∷ [])) result }
     {
         let Some(rule) = &mut self.rule else {
-            return self.answered(number, Observation::Refused(9));
+            unreachable!();
         };
         match rule.appoint(epoch, primary, members.as_slice(), self.replica.is_some()) {
             Ok(_) => self.start(disk, number, epoch, primary),
@@ -127,37 +116,30 @@ impl World {
         requires rising { self.old.last < number }
         requires within { number ≤ 1000000 }
         requires appointed { (before : Kept) × (m : Machine) × IsAppointed before self.old epoch × StandsFor before (M.images disk.old) m }
-        ensures serves { (before : Kept) → IsAppointed before self.old epoch → Serves before self.new (M.images disk.old) (M.images disk.new) (Appoint epoch 0 (0 ∷ [])) result }
-        ensures last { OnOk result (self.new.last ≡ number) }
-        ensures others { IfOk result TellsZero }
-        ensures faults { RoseBy (fault_lines 0 result) (M.faults disk.old) (M.faults disk.new) }
-        ensures marks { M.marks disk.new ≡ M.marks disk.old }
+        ensures { (before : Kept) → IsAppointed before self.old epoch → Handles M.images M.faults M.marks before self.new disk.old disk.new number (Appoint epoch 0 (0 ∷ [])) result }
     {
+        let mut effects = EventEffects::new(self.alloc, self.order);
         let Some(open) = &mut self.replica else {
             unreachable!();
         };
-        let mut lines = Observations::new(self.alloc);
-        match start_epoch(primary, open, disk, epoch, self.order, &mut lines) {
+        match start_epoch(primary, open, disk, epoch, &mut effects) {
             Ok(()) => {
-                self.note_active(epoch, &lines);
-                self.advance(number, &lines);
-                Ok(lines)
+                self.note_active(epoch, effects.active);
+                Ok(self.finish(number, effects))
             }
             Err(StepError::Disk) => {
-                self.note_active(epoch, &lines);
-                self.faulted(number, primary, lines)
+                self.note_active(epoch, effects.active);
+                self.faulted(number, primary, effects)
             }
             Err(StepError::NoMemory) => Err(WorldError::NoMemory),
         }
     }
 
-    // The rule notes that the primary of the epoch became active, where the lines tell it.
-    fn note_active(&mut self, epoch: Epoch, lines: &Observations)
-        ensures { self.new ≡ record self.old { rule = if list_any is_active_line lines.now then option_map (λ known. after_active known epoch) self.old.rule else self.old.rule } }
+    // The rule notes that the primary of the epoch became active, where it did.
+    fn note_active(&mut self, epoch: Epoch, active: bool)
+        ensures { self.new ≡ record self.old { rule = rule_active epoch active self.old.rule } }
     {
-        if tells_active(lines)
-            && let Some(rule) = &mut self.rule
-        {
+        if active && let Some(rule) = &mut self.rule {
             rule.note_active(epoch);
         }
     }
@@ -168,17 +150,13 @@ impl World {
         number: u64,
         epoch: Epoch,
     ) -> Result<Observations, WorldError>
-        requires rising { self.old.last < number }
-        requires stands { (m : Machine) × StandsFor self.old (M.images disk.old) m }
-        ensures serves { Serves self.old self.new (M.images disk.old) (M.images disk.new) (Activate epoch) result }
-        ensures last { OnOk result (self.new.last ≡ number) }
-        ensures others { IfOk result TellsZero }
-        ensures faults { RoseBy (fault_lines 0 result) (M.faults disk.old) (M.faults disk.new) }
-        ensures marks { M.marks disk.new ≡ M.marks disk.old }
+        requires allowed { refusal_of self.old (Activate epoch) ≡ None }
+        requires ready { IsReady self.old (M.images disk.old) number }
+        ensures { Handles M.images M.faults M.marks self.old self.new disk.old disk.new number (Activate epoch) result }
     {
         let _ = disk;
         let Some(rule) = &mut self.rule else {
-            return self.answered(number, Observation::Refused(9));
+            unreachable!();
         };
         match rule.activate(epoch) {
             Ok(()) => self.answered(number, Observation::Done),

@@ -1,5 +1,4 @@
 ghost use Rattle.std.specs.Prelude.{◌≡◌, ◌⊎◌, ◌+◌, ◌<◌, ◌≤◌, ◌^◌, ◌++◌, ◌∷◌, [], IfOk, OnOk, IsErrOf, None, Some, true, if◌then◌else◌};
-ghost use Rattle.std.specs.List.{list_any};
 ghost use Rattle.rc_base.specs.Counts.{Counted};
 ghost use Rattle.config_rule.specs.Rule.{after_boot, after_active};
 ghost use Rattle.log_store.specs.declared.kept.Kept.{Kept as Log};
@@ -16,9 +15,10 @@ ghost use Rattle.events.specs.declared.event.Event.TheVariants.{Boot};
 ghost use Rattle.world.specs.Fleet.{faults_in, RoseBy, TellsZero};
 ghost use Rattle.order_machine.specs.Transitions.{first_epoch};
 ghost use Rattle.world.specs.Kept.{no_events};
-ghost use Rattle.world.specs.Steps.{is_active_line, finished, told_start, log_behind, log_once, HoldsSome};
+ghost use Rattle.world.specs.Steps.{no_effects, effects_started, finished, log_behind, log_once, HoldsSome};
 ghost use Rattle.world.specs.World.{AsReplica, IsOpen, IsRuled};
 
+use crate::effects::EventEffects;
 use crate::opening::open_replica;
 use crate::steps::{take_step, tell_orders, tell_rise};
 use config_rule::Rule;
@@ -49,40 +49,39 @@ pub(crate) fn boot_replica<M: CrashDisk>(
     alloc: Global,
     replica: ReplicaId,
     disk: &mut M,
-    lines: &mut Observations,
+    effects: &mut EventEffects,
 ) -> Result<Option<Replica>, NoMemory>
     requires first { replica ≡ 0 }
     requires empty { StandFor no_log (M.images disk.old) }
-    requires untold { lines.old ≡ [] }
-    ensures whole { OnOk result (IsWhole empty_machine (Boot 0 (0 ∷ [])) lines.new) }
-    ensures stands { IfOk result (λ o. AsReplica o 1 (M.images disk.new) (moved empty_machine (Boot 0 (0 ∷ [])) lines.new)) }
-    ensures ruled { OnOk result (IsRuled (record no_events { rule = Some (if list_any is_active_line lines.new then after_active (after_boot (0 ∷ [])) first_epoch else after_boot (0 ∷ [])) }) (moved empty_machine (Boot 0 (0 ∷ [])) lines.new)) }
-    ensures others { OnOk result (TellsZero lines.new) }
-    ensures faults { OnOk result (RoseBy (faults_in 0 lines.new) (M.faults disk.old) (M.faults disk.new)) }
+    requires begins { effects.old ≡ no_effects 0 }
+    ensures whole { OnOk result (IsWhole empty_machine (Boot 0 (0 ∷ [])) effects.new.lines) }
+    ensures stands { IfOk result (λ o. AsReplica o 1 (M.images disk.new) (moved empty_machine (Boot 0 (0 ∷ [])) effects.new.lines)) }
+    ensures ruled { OnOk result (IsRuled (record no_events { rule = Some (if effects.new.active then after_active (after_boot (0 ∷ [])) first_epoch else after_boot (0 ∷ [])); order = effects.new.order }) (moved empty_machine (Boot 0 (0 ∷ [])) effects.new.lines)) }
+    ensures others { OnOk result (TellsZero effects.new.lines) }
+    ensures faults { OnOk result (RoseBy (faults_in 0 effects.new.lines) (M.faults disk.old) (M.faults disk.new)) }
     ensures later { M.faults disk.old ≤ M.faults disk.new }
     ensures marks { M.marks disk.new ≡ M.marks disk.old }
 {
-    let Some(mut opened) = open_replica(alloc, replica, disk, lines)? else {
+    let Some(mut opened) = open_replica(alloc, replica, disk, &mut effects.lines)? else {
         return Ok(None);
     };
-    match start_epoch(replica, &mut opened, disk, FIRST_EPOCH, 0, lines) {
+    match start_epoch(replica, &mut opened, disk, FIRST_EPOCH, effects) {
         Ok(()) => Ok(Some(opened)),
         Err(StepError::Disk) => {
-            lines.push(Observation::Fault(replica))?;
+            effects.lines.push(Observation::Fault(replica))?;
             Ok(None)
         }
         Err(StepError::NoMemory) => Err(NoMemory),
     }
 }
 
-// The replica starts an epoch, where the order has so many transactions, answers, and logs a Barrier.
+// The replica starts an epoch, answers, and logs a Barrier.
 pub(crate) fn start_epoch<M: CrashDisk>(
     replica: ReplicaId,
     opened: &mut Replica,
     disk: &mut M,
     epoch: Epoch,
-    order: u64,
-    lines: &mut Observations,
+    effects: &mut EventEffects,
 ) -> Result<(), StepError>
     requires first { replica ≡ 0 }
     requires stands { (log : Log) × IsOpen opened.old log (M.images disk.old) }
@@ -91,26 +90,24 @@ pub(crate) fn start_epoch<M: CrashDisk>(
     requires counted { opened.old.front.begins + 1 < 2 ^ 64 }
     ensures kept { OnOk result (AreSame opened.new (record (finished opened.old (steps.Start epoch)) { log = opened.new.log })) }
     ensures stands { OnOk result ((log : Log) → IsOpen opened.old log (M.images disk.old) → IsOpen opened.new (log_behind opened.old (steps.Start epoch) log) (M.images disk.new)) }
-    ensures told { OnOk result (lines.new ≡ (lines.old ++ told_start order opened.old) ++ says.Done ∷ []) }
-    ensures cut { IsErrOf result errors.Disk → ((lines.new ≡ lines.old) × ((log : Log) → IsOpen opened.old log (M.images disk.old) → StandForOneOf log (log_once opened.old (steps.Start epoch) log) (M.images disk.new))) ⊎ (lines.new ≡ (lines.old ++ told_start order opened.old) ++ says.Done ∷ []) }
+    ensures told { OnOk result (effects.new ≡ effects_started effects.old epoch opened.old) }
+    ensures cut { IsErrOf result errors.Disk → ((effects.new ≡ effects.old) × ((log : Log) → IsOpen opened.old log (M.images disk.old) → StandForOneOf log (log_once opened.old (steps.Start epoch) log) (M.images disk.new))) ⊎ (effects.new ≡ effects_started effects.old epoch opened.old) }
     ensures stop { (log : Log) → IsOpen opened.old log (M.images disk.old) → HoldsSome opened.old (steps.Start epoch) log (M.images disk.new) }
     ensures cause { Counted (M.faults disk.old) (M.faults disk.new) (IsErrOf result errors.Disk) }
     ensures marks { M.marks disk.new ≡ M.marks disk.old }
 {
-    take_start(replica, opened, disk, epoch, order, lines)?;
-    lines.push(Observation::Done)?;
-    take_step(replica, opened, disk, &StepEvent::Barrier, lines)?;
+    take_start(replica, opened, disk, epoch, effects)?;
+    take_step(replica, opened, disk, &StepEvent::Barrier, effects)?;
     Ok(())
 }
 
-// The step that starts an epoch, and its lines.
+// The step that starts an epoch, its lines and its answer.
 fn take_start<M: CrashDisk>(
     replica: ReplicaId,
     opened: &mut Replica,
     disk: &mut M,
     epoch: Epoch,
-    order: u64,
-    lines: &mut Observations,
+    effects: &mut EventEffects,
 ) -> Result<(), StepError>
     requires first { replica ≡ 0 }
     requires stands { (log : Log) × IsOpen opened.old log (M.images disk.old) }
@@ -119,16 +116,18 @@ fn take_start<M: CrashDisk>(
     requires counted { opened.old.front.begins + 1 < 2 ^ 64 }
     ensures kept { OnOk result (AreSame opened.new (record (stepped opened.old (steps.Start epoch)) { log = opened.new.log })) }
     ensures stands { OnOk result ((log : Log) → IsOpen opened.old log (M.images disk.old) → IsOpen opened.new (log_once opened.old (steps.Start epoch) log) (M.images disk.new)) }
-    ensures told { OnOk result (lines.new ≡ lines.old ++ told_start order opened.old) }
+    ensures told { OnOk result (effects.new ≡ effects_started effects.old epoch opened.old) }
     ensures stop { (log : Log) → IsOpen opened.old log (M.images disk.old) → StandForOneOf log (log_once opened.old (steps.Start epoch) log) (M.images disk.new) }
-    ensures untold { IsErrOf result errors.Disk → lines.new ≡ lines.old }
+    ensures untold { IsErrOf result errors.Disk → effects.new ≡ effects.old }
     ensures cause { Counted (M.faults disk.old) (M.faults disk.new) (IsErrOf result errors.Disk) }
     ensures marks { M.marks disk.new ≡ M.marks disk.old }
 {
     let shown = opened.shown();
     let outcome = opened.step(disk, &StepEvent::Start { epoch })?;
-    let known = order.saturating_sub(shown) as usize;
-    tell_orders(outcome.commits, known, lines)?;
-    tell_rise(replica, shown, false, outcome.shown, true, lines)?;
+    let known = effects.order.saturating_sub(shown) as usize;
+    effects.note(outcome.shown, outcome.active);
+    tell_orders(outcome.commits, known, &mut effects.lines)?;
+    tell_rise(replica, shown, false, outcome.shown, true, &mut effects.lines)?;
+    effects.lines.push(Observation::Done)?;
     Ok(())
 }

@@ -8,15 +8,16 @@ ghost use Rattle.replica.specs.declared.error.StepError.TheVariants as errors;
 ghost use Rattle.replica.specs.declared.step.StepEvent.TheVariants as steps;
 ghost use Rattle.replica.specs.Open.{Open, AreSame};
 ghost use Rattle.replica.specs.Step as step_spec;
-ghost use Rattle.replica.specs.Step.{MayStep, block, stepped};
+ghost use Rattle.replica.specs.Step.{MayStep, block, outcome, stepped};
 ghost use Rattle.world.specs.Steps as spec;
-ghost use Rattle.world.specs.Steps.{told, told_rise, told_by, order_line, is_due, finished, log_once, log_behind, IsCutOff, HoldsSome};
+ghost use Rattle.world.specs.Steps.{told, told_rise, effects_after, order_line, is_due, finished, log_once, log_behind, IsCutOff, HoldsSome};
 ghost use Rattle.world.specs.World.{IsOpen};
 
+use crate::effects::EventEffects;
 use disk_model::CrashDisk;
-use events::Call;
+use events::{Answer, Call};
 use order_machine::{Observation, Observations, line_of_answer};
-use rc_base::{NoMemory, ReplicaId};
+use rc_base::{Epoch, Lsn, NoMemory, ReplicaId};
 use replica::{Commits, Outcome, Replica, Role, StepError, StepEvent, TxnIds};
 
 // Whether the role is that of an active primary.
@@ -96,13 +97,23 @@ fn tell(
     Ok(())
 }
 
+// How far a replica's log reaches by its answer, where it tells that: the epoch and the position of the last record.
+fn progress_in(answer: &Option<Answer>) -> Option<(Epoch, Lsn)>
+    ensures { result ≡ spec.progress_in answer.now }
+{
+    match answer {
+        Some(Answer::Progress(_, last_epoch, last)) => Some((*last_epoch, Lsn(*last))),
+        _ => None,
+    }
+}
+
 // A step of replica 0, and its lines. Answers whether a Barrier is due behind it.
 pub(crate) fn take_step<M: CrashDisk>(
     replica: ReplicaId,
     opened: &mut Replica,
     disk: &mut M,
     event: &StepEvent,
-    lines: &mut Observations,
+    effects: &mut EventEffects,
 ) -> Result<bool, StepError>
     requires first { replica ≡ 0 }
     requires stands { (log : Log) × IsOpen opened.old log (M.images disk.old) }
@@ -111,10 +122,10 @@ pub(crate) fn take_step<M: CrashDisk>(
     requires counted { opened.old.front.begins + 1 < 2 ^ 64 }
     ensures kept { OnOk result (AreSame opened.new (record (stepped opened.old event.now) { log = opened.new.log })) }
     ensures stands { OnOk result ((log : Log) → IsOpen opened.old log (M.images disk.old) → IsOpen opened.new (log_once opened.old event.now log) (M.images disk.new)) }
-    ensures told { OnOk result (lines.new ≡ lines.old ++ told_by opened.old event.now) }
+    ensures told { OnOk result (effects.new ≡ effects_after effects.old opened.old event.now) }
     ensures due { IfOk result (λ due. due ≡ is_due opened.old event.now) }
     ensures stop { (log : Log) → IsOpen opened.old log (M.images disk.old) → StandForOneOf log (log_once opened.old event.now log) (M.images disk.new) }
-    ensures untold { IsErrOf result errors.Disk → lines.new ≡ lines.old }
+    ensures untold { IsErrOf result errors.Disk → effects.new ≡ effects.old }
     ensures logging { IsErrOf result errors.Disk → block opened.old event.now ≢ [] }
     ensures cause { Counted (M.faults disk.old) (M.faults disk.new) (IsErrOf result errors.Disk) }
     ensures marks { M.marks disk.new ≡ M.marks disk.old }
@@ -123,8 +134,40 @@ pub(crate) fn take_step<M: CrashDisk>(
     let was_active = is_active(opened.role());
     let outcome = opened.step(disk, event)?;
     let due = outcome.barrier_due;
-    tell(replica, shown, was_active, outcome, lines)?;
+    effects.note(outcome.shown, outcome.active && !was_active);
+    tell(replica, shown, was_active, outcome, &mut effects.lines)?;
     Ok(due)
+}
+
+// A survey of replica 0, and its lines: what it answered, where it did.
+pub(crate) fn take_survey<M: CrashDisk>(
+    replica: ReplicaId,
+    opened: &mut Replica,
+    disk: &mut M,
+    epoch: Epoch,
+    effects: &mut EventEffects,
+) -> Result<Option<(Epoch, Lsn)>, StepError>
+    requires first { replica ≡ 0 }
+    requires stands { (log : Log) × IsOpen opened.old log (M.images disk.old) }
+    requires room { opened.old.last.0 + 2 < 2 ^ 48 }
+    requires counted { opened.old.front.begins + 1 < 2 ^ 64 }
+    ensures kept { OnOk result (AreSame opened.new (record (stepped opened.old (steps.Survey epoch)) { log = opened.new.log })) }
+    ensures stands { OnOk result ((log : Log) → IsOpen opened.old log (M.images disk.old) → IsOpen opened.new (log_once opened.old (steps.Survey epoch) log) (M.images disk.new)) }
+    ensures told { OnOk result (effects.new ≡ effects_after effects.old opened.old (steps.Survey epoch)) }
+    ensures answered { IfOk result (λ answered. answered ≡ spec.progress_in (outcome opened.old (steps.Survey epoch)).answer) }
+    ensures stop { (log : Log) → IsOpen opened.old log (M.images disk.old) → StandForOneOf log (log_once opened.old (steps.Survey epoch) log) (M.images disk.new) }
+    ensures untold { IsErrOf result errors.Disk → effects.new ≡ effects.old }
+    ensures logging { IsErrOf result errors.Disk → block opened.old (steps.Survey epoch) ≢ [] }
+    ensures cause { Counted (M.faults disk.old) (M.faults disk.new) (IsErrOf result errors.Disk) }
+    ensures marks { M.marks disk.new ≡ M.marks disk.old }
+{
+    let shown = opened.shown();
+    let was_active = is_active(opened.role());
+    let outcome = opened.step(disk, &StepEvent::Survey { epoch })?;
+    let answered = progress_in(&outcome.answer);
+    effects.note(outcome.shown, outcome.active && !was_active);
+    tell(replica, shown, was_active, outcome, &mut effects.lines)?;
+    Ok(answered)
 }
 
 // A step of replica 0 and its lines, and behind it the Barrier where one is due.
@@ -133,7 +176,7 @@ pub(crate) fn take_steps<M: CrashDisk>(
     opened: &mut Replica,
     disk: &mut M,
     event: &StepEvent,
-    lines: &mut Observations,
+    effects: &mut EventEffects,
 ) -> Result<(), StepError>
     requires first { replica ≡ 0 }
     requires stands { (log : Log) × IsOpen opened.old log (M.images disk.old) }
@@ -142,14 +185,14 @@ pub(crate) fn take_steps<M: CrashDisk>(
     requires counted { opened.old.front.begins + 2 < 2 ^ 64 }
     ensures kept { OnOk result (AreSame opened.new (record (finished opened.old event.now) { log = opened.new.log })) }
     ensures stands { OnOk result ((log : Log) → IsOpen opened.old log (M.images disk.old) → IsOpen opened.new (log_behind opened.old event.now log) (M.images disk.new)) }
-    ensures told { OnOk result (lines.new ≡ lines.old ++ told_by opened.old event.now) }
-    ensures cut { IsErrOf result errors.Disk → (log : Log) → IsOpen opened.old log (M.images disk.old) → IsCutOff opened.old event.now log lines.old lines.new (M.images disk.new) }
+    ensures told { OnOk result (effects.new ≡ effects_after effects.old opened.old event.now) }
+    ensures cut { IsErrOf result errors.Disk → (log : Log) → IsOpen opened.old log (M.images disk.old) → IsCutOff opened.old event.now log effects.old effects.new (M.images disk.new) }
     ensures memory { IsErrOf result errors.NoMemory → (log : Log) → IsOpen opened.old log (M.images disk.old) → HoldsSome opened.old event.now log (M.images disk.new) }
     ensures cause { Counted (M.faults disk.old) (M.faults disk.new) (IsErrOf result errors.Disk) }
     ensures marks { M.marks disk.new ≡ M.marks disk.old }
 {
-    if take_step(replica, opened, disk, event, lines)? {
-        take_step(replica, opened, disk, &StepEvent::Barrier, lines)?;
+    if take_step(replica, opened, disk, event, effects)? {
+        take_step(replica, opened, disk, &StepEvent::Barrier, effects)?;
     }
     Ok(())
 }
@@ -160,7 +203,7 @@ pub(crate) fn take_call<M: CrashDisk>(
     opened: &mut Replica,
     disk: &mut M,
     call: &Call,
-    lines: &mut Observations,
+    effects: &mut EventEffects,
 ) -> Result<(), StepError>
     requires first { replica ≡ 0 }
     requires stands { (log : Log) × IsOpen opened.old log (M.images disk.old) }
@@ -169,12 +212,12 @@ pub(crate) fn take_call<M: CrashDisk>(
     requires counted { opened.old.front.begins + 2 < 2 ^ 64 }
     ensures kept { OnOk result (AreSame opened.new (record (finished opened.old (steps.Client call.now)) { log = opened.new.log })) }
     ensures stands { OnOk result ((log : Log) → IsOpen opened.old log (M.images disk.old) → IsOpen opened.new (log_behind opened.old (steps.Client call.now) log) (M.images disk.new)) }
-    ensures told { OnOk result (lines.new ≡ lines.old ++ told_by opened.old (steps.Client call.now)) }
-    ensures cut { IsErrOf result errors.Disk → (log : Log) → IsOpen opened.old log (M.images disk.old) → IsCutOff opened.old (steps.Client call.now) log lines.old lines.new (M.images disk.new) }
+    ensures told { OnOk result (effects.new ≡ effects_after effects.old opened.old (steps.Client call.now)) }
+    ensures cut { IsErrOf result errors.Disk → (log : Log) → IsOpen opened.old log (M.images disk.old) → IsCutOff opened.old (steps.Client call.now) log effects.old effects.new (M.images disk.new) }
     ensures memory { IsErrOf result errors.NoMemory → (log : Log) → IsOpen opened.old log (M.images disk.old) → HoldsSome opened.old (steps.Client call.now) log (M.images disk.new) }
     ensures cause { Counted (M.faults disk.old) (M.faults disk.new) (IsErrOf result errors.Disk) }
     ensures marks { M.marks disk.new ≡ M.marks disk.old }
 {
     let event = StepEvent::Client(call.clone()?);
-    take_steps(replica, opened, disk, &event, lines)
+    take_steps(replica, opened, disk, &event, effects)
 }

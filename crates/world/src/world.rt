@@ -4,21 +4,21 @@ ghost use Rattle.order_machine.specs.Machine.{Machine};
 ghost use Rattle.order_machine.specs.Transitions.{event_primary, is_actor};
 ghost use Rattle.replica.specs.Step.{CallFits};
 ghost use Rattle.events.specs.declared.event.Event.TheVariants.{Boot, Client, Arm, Crash, Reboot, Inspect};
-ghost use Rattle.world.specs.Fleet.{images_of, faults_of, marks_of, marks_after, fault_lines, RoseBy, TellsZero};
-ghost use Rattle.world.specs.Kept.{no_events, has_booted};
-ghost use Rattle.world.specs.Steps as spec;
+ghost use Rattle.world.specs.Fleet.{images_of, faults_of, marks_of, marks_after, fault_lines, RoseBy};
+ghost use Rattle.world.specs.Kept.{no_events};
+ghost use Rattle.world.specs.Handling.{IsReady, Handles, refusal_of, down_in};
 ghost use Rattle.world.specs.World.{StandsFor, IsHere, Serves, StillHolds};
 
 use crate::error::WorldError;
+use crate::effects::EventEffects;
 use crate::opening::open_replica;
 use crate::rows::inspected;
 use crate::starting::{FIRST_EPOCH, boot_replica, first_rule};
 use crate::steps::take_call;
-use crate::telling::{most_shown, tells_active};
 use config_rule::Rule;
 use disk_model::CrashDisk;
-use events::{Call, Event};
-use order_machine::{Observation, Observations};
+use events::{Answer, Call, Event};
+use order_machine::{Observation, Observations, line_of_answer};
 use rc_base::{NoMemory, ReplicaId};
 use replica::{Replica, StepError};
 use std::alloc::Global;
@@ -101,15 +101,12 @@ impl World {
         event: &Event,
     ) -> Result<Observations, WorldError>
         requires here { IsHere event.now }
-        requires rising { self.old.last < number }
-        requires within { number ≤ 1000000 }
-        requires stands { (m : Machine) × StandsFor self.old (M.images disk.old) m }
-        ensures serves { Serves self.old self.new (M.images disk.old) (M.images disk.new) event.now result }
-        ensures last { OnOk result (self.new.last ≡ number) }
-        ensures others { IfOk result TellsZero }
-        ensures faults { RoseBy (fault_lines 0 result) (M.faults disk.old) (M.faults disk.new) }
-        ensures marks { M.marks disk.new ≡ marks_after event.now result 0 (M.marks disk.old) }
+        requires ready { IsReady self.old (M.images disk.old) number }
+        ensures { Handles M.images M.faults M.marks self.old self.new disk.old disk.new number event.now result }
     {
+        if let Some(answer) = self.refusal(event) {
+            return self.answered(number, line_of_answer(answer));
+        }
         match event {
             Event::Boot(primary, _) => self.boot(disk, number, *primary),
             Event::Client(replica, call) => self.client(disk, number, *replica, call),
@@ -125,6 +122,42 @@ impl World {
         }
     }
 
+    // The one answer of an event that the world refuses by what it keeps. What breaks a later part of the rule of
+    // reconfiguration is told by the rule itself.
+    fn refusal(&self, event: &Event) -> Option<Answer>
+        ensures { result ≡ refusal_of self.now event.now }
+    {
+        let Some(rule) = &self.rule else {
+            return match event {
+                Event::Boot(..) => None,
+                _ => Some(Answer::Refused(9)),
+            };
+        };
+        match event {
+            Event::Boot(..) => Some(Answer::Refused(9)),
+            Event::Arm(replica, _) | Event::Inspect(replica) => self.down(*replica),
+            Event::Reboot(_) => self.replica.as_ref().map(|_| Answer::IgnoredUp),
+            Event::Survey(replica, epoch) => {
+                if rule.survey_ok(*epoch) {
+                    self.down(*replica)
+                } else {
+                    Some(Answer::Refused(1))
+                }
+            }
+            Event::Client(..) | Event::Crash(..) | Event::Appoint(..) | Event::Activate(_) => None,
+        }
+    }
+
+    // The refusal of what is asked of a replica that is closed.
+    fn down(&self, replica: ReplicaId) -> Option<Answer>
+        ensures { result ≡ down_in self.now replica }
+    {
+        if self.replica.is_some() {
+            return None;
+        }
+        Some(Answer::Down(replica))
+    }
+
     fn boot<M: CrashDisk>(
         &mut self,
         disk: &mut M,
@@ -132,27 +165,18 @@ impl World {
         replica: ReplicaId,
     ) -> Result<Observations, WorldError>
         requires first { replica ≡ 0 }
-        requires rising { self.old.last < number }
-        requires within { number ≤ 1000000 }
-        requires stands { (m : Machine) × StandsFor self.old (M.images disk.old) m }
-        ensures serves { Serves self.old self.new (M.images disk.old) (M.images disk.new) (Boot 0 (0 ∷ [])) result }
-        ensures last { OnOk result (self.new.last ≡ number) }
-        ensures others { IfOk result TellsZero }
-        ensures faults { RoseBy (fault_lines 0 result) (M.faults disk.old) (M.faults disk.new) }
-        ensures marks { M.marks disk.new ≡ M.marks disk.old }
+        requires allowed { refusal_of self.old (Boot 0 (0 ∷ [])) ≡ None }
+        requires ready { IsReady self.old (M.images disk.old) number }
+        ensures { Handles M.images M.faults M.marks self.old self.new disk.old disk.new number (Boot 0 (0 ∷ [])) result }
     {
-        if self.is_booted() {
-            return self.answered(number, Observation::Refused(9));
-        }
-        let mut lines = Observations::new(self.alloc);
+        let mut effects = EventEffects::new(self.alloc, 0);
         let mut rule = first_rule(self.alloc, replica)?;
-        self.replica = boot_replica(self.alloc, replica, disk, &mut lines)?;
-        if tells_active(&lines) {
+        self.replica = boot_replica(self.alloc, replica, disk, &mut effects)?;
+        if effects.active {
             rule.note_active(FIRST_EPOCH);
         }
-        self.last = number;
         self.rule = Some(rule);
-        Ok(lines)
+        Ok(self.finish(number, effects))
     }
 
     fn client<M: CrashDisk>(
@@ -164,28 +188,17 @@ impl World {
     ) -> Result<Observations, WorldError>
         requires fits { CallFits call.now }
         requires first { replica ≡ 0 }
-        requires rising { self.old.last < number }
-        requires within { number ≤ 1000000 }
-        requires stands { (m : Machine) × StandsFor self.old (M.images disk.old) m }
-        ensures serves { Serves self.old self.new (M.images disk.old) (M.images disk.new) (Client 0 call.now) result }
-        ensures last { OnOk result (self.new.last ≡ number) }
-        ensures others { IfOk result TellsZero }
-        ensures faults { RoseBy (fault_lines 0 result) (M.faults disk.old) (M.faults disk.new) }
-        ensures marks { M.marks disk.new ≡ M.marks disk.old }
+        requires allowed { refusal_of self.old (Client 0 call.now) ≡ None }
+        requires ready { IsReady self.old (M.images disk.old) number }
+        ensures { Handles M.images M.faults M.marks self.old self.new disk.old disk.new number (Client 0 call.now) result }
     {
-        if !self.is_booted() {
-            return self.answered(number, Observation::Refused(9));
-        }
-        let mut lines = Observations::new(self.alloc);
+        let mut effects = EventEffects::new(self.alloc, self.order);
         let Some(open) = &mut self.replica else {
             return self.answered(number, Observation::Down(replica));
         };
-        match take_call(replica, open, disk, call, &mut lines) {
-            Ok(()) => {
-                self.advance(number, &lines);
-                Ok(lines)
-            }
-            Err(StepError::Disk) => self.faulted(number, replica, lines),
+        match take_call(replica, open, disk, call, &mut effects) {
+            Ok(()) => Ok(self.finish(number, effects)),
+            Err(StepError::Disk) => self.faulted(number, replica, effects),
             Err(StepError::NoMemory) => Err(WorldError::NoMemory),
         }
     }
@@ -199,21 +212,10 @@ impl World {
     ) -> Result<Observations, WorldError>
         requires one { 1 ≤ calls }
         requires first { replica ≡ 0 }
-        requires rising { self.old.last < number }
-        requires within { number ≤ 1000000 }
-        requires stands { (m : Machine) × StandsFor self.old (M.images disk.old) m }
-        ensures serves { Serves self.old self.new (M.images disk.old) (M.images disk.new) (Arm 0 calls) result }
-        ensures last { OnOk result (self.new.last ≡ number) }
-        ensures others { IfOk result TellsZero }
-        ensures faults { RoseBy (fault_lines 0 result) (M.faults disk.old) (M.faults disk.new) }
-        ensures marks { M.marks disk.new ≡ marks_after (Arm 0 calls) result 0 (M.marks disk.old) }
+        requires allowed { refusal_of self.old (Arm 0 calls) ≡ None }
+        requires ready { IsReady self.old (M.images disk.old) number }
+        ensures { Handles M.images M.faults M.marks self.old self.new disk.old disk.new number (Arm 0 calls) result }
     {
-        if !self.is_booted() {
-            return self.answered(number, Observation::Refused(9));
-        }
-        if self.replica.is_none() {
-            return self.answered(number, Observation::Down(replica));
-        }
         let lines = self.answered(number, Observation::Done)?;
         disk.arm(calls);
         Ok(lines)
@@ -227,18 +229,10 @@ impl World {
         pick: u64,
     ) -> Result<Observations, WorldError>
         requires first { replica ≡ 0 }
-        requires rising { self.old.last < number }
-        requires within { number ≤ 1000000 }
-        requires stands { (m : Machine) × StandsFor self.old (M.images disk.old) m }
-        ensures serves { Serves self.old self.new (M.images disk.old) (M.images disk.new) (Crash 0 pick) result }
-        ensures last { OnOk result (self.new.last ≡ number) }
-        ensures others { IfOk result TellsZero }
-        ensures faults { RoseBy (fault_lines 0 result) (M.faults disk.old) (M.faults disk.new) }
-        ensures marks { M.marks disk.new ≡ marks_after (Crash 0 pick) result 0 (M.marks disk.old) }
+        requires allowed { refusal_of self.old (Crash 0 pick) ≡ None }
+        requires ready { IsReady self.old (M.images disk.old) number }
+        ensures { Handles M.images M.faults M.marks self.old self.new disk.old disk.new number (Crash 0 pick) result }
     {
-        if !self.is_booted() {
-            return self.answered(number, Observation::Refused(9));
-        }
         let lines = self.answered(number, Observation::Done)?;
         self.replica = None;
         disk.crash(pick);
@@ -252,21 +246,10 @@ impl World {
         replica: ReplicaId,
     ) -> Result<Observations, WorldError>
         requires first { replica ≡ 0 }
-        requires rising { self.old.last < number }
-        requires within { number ≤ 1000000 }
-        requires stands { (m : Machine) × StandsFor self.old (M.images disk.old) m }
-        ensures serves { Serves self.old self.new (M.images disk.old) (M.images disk.new) (Reboot 0) result }
-        ensures last { OnOk result (self.new.last ≡ number) }
-        ensures others { IfOk result TellsZero }
-        ensures faults { RoseBy (fault_lines 0 result) (M.faults disk.old) (M.faults disk.new) }
-        ensures marks { M.marks disk.new ≡ M.marks disk.old }
+        requires allowed { refusal_of self.old (Reboot 0) ≡ None }
+        requires ready { IsReady self.old (M.images disk.old) number }
+        ensures { Handles M.images M.faults M.marks self.old self.new disk.old disk.new number (Reboot 0) result }
     {
-        if !self.is_booted() {
-            return self.answered(number, Observation::Refused(9));
-        }
-        if self.replica.is_some() {
-            return self.answered(number, Observation::IgnoredUp);
-        }
         let mut lines = Observations::new(self.alloc);
         self.replica = open_replica(self.alloc, replica, disk, &mut lines)?;
         self.last = number;
@@ -280,57 +263,43 @@ impl World {
         replica: ReplicaId,
     ) -> Result<Observations, WorldError>
         requires first { replica ≡ 0 }
-        requires rising { self.old.last < number }
-        requires within { number ≤ 1000000 }
-        requires stands { (m : Machine) × StandsFor self.old (M.images disk.old) m }
-        ensures serves { Serves self.old self.new (M.images disk.old) (M.images disk.new) (Inspect 0) result }
-        ensures last { OnOk result (self.new.last ≡ number) }
-        ensures others { IfOk result TellsZero }
-        ensures faults { RoseBy (fault_lines 0 result) (M.faults disk.old) (M.faults disk.new) }
-        ensures marks { M.marks disk.new ≡ M.marks disk.old }
+        requires allowed { refusal_of self.old (Inspect 0) ≡ None }
+        requires ready { IsReady self.old (M.images disk.old) number }
+        ensures { Handles M.images M.faults M.marks self.old self.new disk.old disk.new number (Inspect 0) result }
     {
         let _ = disk;
-        if !self.is_booted() {
-            return self.answered(number, Observation::Refused(9));
-        }
         let Some(opened) = &self.replica else {
-            return self.answered(number, Observation::Down(replica));
+            unreachable!();
         };
         let lines = inspected(self.alloc, replica, opened.contents())?;
         self.last = number;
         Ok(lines)
     }
 
-    // Whether the boot was done.
-    pub(crate) fn is_booted(&self) -> bool
-        ensures { result ≡ has_booted self.now }
-    {
-        self.rule.is_some()
-    }
-
-    // An event was done, with these lines.
-    pub(crate) fn advance(&mut self, number: u64, lines: &Observations)
-        ensures { self.new ≡ record self.old { last = number; order = max self.old.order (spec.most_shown lines.now) } }
+    // An event was done: its effects go into the world's state, and become its lines.
+    pub(crate) fn finish(&mut self, number: u64, effects: EventEffects) -> Observations
+        ensures kept { self.new ≡ record self.old { last = number; order = effects.order } }
+        ensures lines { result ≡ effects.lines }
     {
         self.last = number;
-        self.order = self.order.max(most_shown(lines));
+        self.order = effects.order;
+        effects.lines
     }
 
-    // An event in a step of which the disk failed, behind these lines: the replica is closed.
+    // An event in a step of which the disk failed, after these effects: the replica is closed.
     pub(crate) fn faulted(
         &mut self,
         number: u64,
         replica: ReplicaId,
-        mut lines: Observations,
+        effects: EventEffects,
     ) -> Result<Observations, WorldError>
-        ensures lines { IfOk result (λ told. told ≡ lines ++ Observation.Fault replica ∷ []) }
-        ensures closed { OnOk result (self.new ≡ record self.old { last = number; order = max self.old.order (spec.most_shown lines); replica = None }) }
+        ensures lines { IfOk result (λ told. told ≡ effects.lines ++ Observation.Fault replica ∷ []) }
+        ensures closed { OnOk result (self.new ≡ record self.old { last = number; order = effects.order; replica = None }) }
         ensures memory { OnErr result (result ≡ Err WorldError.NoMemory) }
     {
         self.replica = None;
-        self.order = self.order.max(most_shown(&lines));
+        let mut lines = self.finish(number, effects);
         lines.push(Observation::Fault(replica))?;
-        self.last = number;
         Ok(lines)
     }
 

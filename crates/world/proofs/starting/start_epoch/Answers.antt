@@ -1,7 +1,9 @@
-use Rattle.std.proofs.Common.{refl}
+use Rattle.std.proofs.Common.{◌∙◌, ap, refl, arith}
 use Rattle.replica.specs.declared.step.StepEvent.TheVariants as steps
+use Rattle.replica.specs.Open.{Open}
+use Rattle.world.specs.declared.effects.EventEffects.{EventEffects}
 use Rattle.world.specs.Steps.{log_once}
-use Rattle.world.proofs.Stepping.{finished_twice, holds_second, stands_second}
+use Rattle.world.proofs.Stepping.{barrier_effects, finished_twice, holds_second, stands_second}
 use Rattle.world.proofs.starting.start_epoch.Goals as goal
 
 pub returns-in_err-take_step-clause-stop : goal.returns-in_err-take_step-clause-stop
@@ -22,3 +24,11 @@ returns-clause-stop g c = λ log o.
 pub returns-clause-kept : goal.returns-clause-kept
 returns-clause-kept g c =
     finished_twice c.args.opened.now c.take_start.new.opened c.take_step.new.opened (steps.Start c.args.epoch) refl c.in_ok-take_start.ensures.kept c.in_ok-take_step.ensures.kept
+
+-- a Barrier has no effects of its own
+pub returns-clause-told : goal.returns-clause-told
+returns-clause-told g c =
+    let once = c.in_ok-take_start.ensures in
+    let now = ap (λ (x : Open). x.shown) once.kept.same in
+    let all = ap (λ (d : EventEffects). d.order) once.told in
+    c.in_ok-take_step.ensures.told ∙ (barrier_effects c.take_start.new.effects c.take_start.new.opened (grind (arith, now, all)) ∙ once.told)

@@ -12,7 +12,7 @@ use Rattle.world.proofs.steps.take_call.Goals as goal
 pub returns-clause-cut : goal.returns-clause-cut
 returns-clause-cut g c =
     let same : c.in_ok-clone.field-0 ≡ c.args.call.now = search rules in
-    subst (λ (k : Call). IsErrOf c.take_steps.result errors.Disk → (log : Log) → IsOpen c.args.opened.now log (g.M.Disk.images c.args.disk.now) → IsCutOff c.args.opened.now (steps.Client k) log c.args.lines.now c.take_steps.new.lines (g.M.Disk.images c.take_steps.new.disk)) same c.take_steps.ensures.cut
+    subst (λ (k : Call). IsErrOf c.take_steps.result errors.Disk → (log : Log) → IsOpen c.args.opened.now log (g.M.Disk.images c.args.disk.now) → IsCutOff c.args.opened.now (steps.Client k) log c.args.effects.now c.take_steps.new.effects (g.M.Disk.images c.take_steps.new.disk)) same c.take_steps.ensures.cut
 
 pub returns-clause-stands : goal.returns-clause-stands
 returns-clause-stands g c =

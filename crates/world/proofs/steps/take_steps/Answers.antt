@@ -3,7 +3,7 @@ use Rattle.replica.specs.Open.{Open}
 use Rattle.std.proofs.lemmas.Result.{err_from_is_err_and}
 use Rattle.replica.specs.declared.error.StepError.TheVariants as errors
 use Rattle.world.specs.Steps.{log_once}
-use Rattle.world.proofs.Stepping.{cut_second, counted_second, handed_on, finished_twice, last_few, alike_begins}
+use Rattle.world.proofs.Stepping.{cut_second, effects_twice, due_shows, counted_second, handed_on, finished_twice, last_few, alike_begins}
 use Rattle.replica.proofs.Lengthened.{begins_few}
 use Rattle.world.proofs.steps.take_steps.Goals as goal
 
@@ -12,7 +12,7 @@ returns-in_err-take_step-2-clause-cut g c = λ told log o.
     let once = c.in_ok-take_step.ensures in
     let second = c.in_err-take_step-2.ensures in
     let failed = handed_on _ _ errors.Disk (err_from_is_err_and _ c.from_residual-in_err-take_step-2.ensures.1) told in
-    cut_second c.args.opened.now c.take_step.new.opened c.args.event.now log c.args.lines.now c.take_step.new.lines _ _ (sym once.due ∙ c.if-branch.true) once.kept once.told (second.untold failed) (second.stop (log_once c.args.opened.now c.args.event.now log) (once.stands log o))
+    cut_second c.args.opened.now c.take_step.new.opened c.args.event.now log c.args.effects.now c.take_step.new.effects _ _ (sym once.due ∙ c.if-branch.true) once.kept once.told (second.untold failed) (second.stop (log_once c.args.opened.now c.args.event.now log) (once.stands log o))
 
 pub returns-in_err-take_step-2-clause-cause : goal.returns-in_err-take_step-2-clause-cause
 returns-in_err-take_step-2-clause-cause g c =
@@ -37,3 +37,8 @@ take_step-requires-then-branch-clause-counted g c =
 pub returns-in_ok-take_step-2-clause-kept : goal.returns-in_ok-take_step-2-clause-kept
 returns-in_ok-take_step-2-clause-kept g c =
     finished_twice c.args.opened.now c.take_step.new.opened c.take_step-then-branch.new.opened c.args.event.now (sym c.in_ok-take_step.ensures.due ∙ c.if-branch.true) c.in_ok-take_step.ensures.kept c.in_ok-take_step-2.ensures.kept
+
+pub returns-in_ok-take_step-2-clause-told : goal.returns-in_ok-take_step-2-clause-told
+returns-in_ok-take_step-2-clause-told g c =
+    let once = c.in_ok-take_step.ensures in
+    c.in_ok-take_step-2.ensures.told ∙ effects_twice c.args.opened.now c.take_step.new.opened c.args.event.now c.args.effects.now c.take_step.new.effects once.kept once.told (due_shows c.args.opened.now c.args.event.now (sym once.due ∙ c.if-branch.true))

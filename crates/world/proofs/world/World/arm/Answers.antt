@@ -1,35 +1,31 @@
-use Rattle.std.proofs.Common.{◌∙◌, Some, ap, sym, refl, not, arith}
+use Rattle.std.proofs.Common.{◌≡◌, ◌∙◌, ap, sym, refl, arith}
 use Rattle.std.proofs.lemmas.Result.{err_from_is_err_and}
 use Rattle.events.specs.declared.event.Event.TheVariants.{Arm}
-use Rattle.order_machine.specs.declared.observation.Observation.TheVariants as says
-use Rattle.world.proofs.Answered.{answered_serves, answered_refused, err_serves, new_refuses, arm_down}
-use Rattle.world.proofs.Later.{none_of, some_of}
+use Rattle.world.specs.Kept.{Kept}
+use Rattle.world.specs.Handling.{down_in}
+use Rattle.world.proofs.Faultless.{rose_none}
+use Rattle.world.proofs.Guards.{unrefused_once, unrefused_up}
+use Rattle.world.proofs.Handled.{memory_handles, handed_memory, done_others, done_faultless, marks_of_done}
+use Rattle.world.proofs.Later.{some_of}
 use Rattle.world.proofs.Quietly.{arm_does}
 use Rattle.world.proofs.Still.{stands_still}
 use Rattle.world.proofs.world.World.arm.Goals as goal
-use Rattle.events.specs.declared.answer.Answer.TheVariants as answers
 
-pub returns-then-not-is_booted-clause-serves : goal.returns-then-not-is_booted-clause-serves
-returns-then-not-is_booted-clause-serves g c =
-    let done = c.answered.ensures in
-    let fresh = new_refuses c.args.self.now (g.M.Disk.images c.args.disk.now) (Arm 0 c.args.calls) (sym c.is_booted.ensures ∙ c.if-not-is_booted.true) refl in
-    answered_serves _ _ _ _ (says.Refused 9) c.args.number _ done.lines done.stays done.memory (omega arith) (λ m s. answered_refused m (Arm 0 c.args.calls) (answers.Refused 9) (fresh m s))
+pub returns-in_err-lines : goal.returns-in_err-lines
+returns-in_err-lines g c =
+    memory_handles g.M.Disk.images g.M.Disk.faults g.M.Disk.marks c.args.self.now c.answered.new.self c.args.disk.now c.args.disk.now c.args.number (Arm 0 c.args.calls) c.from_residual.result (omega arith) refl (λ m s. stands_still c.args.self.now (g.M.Disk.images c.args.disk.now) m s)
+    (handed_memory _ _ (err_from_is_err_and _ c.from_residual.ensures.1) c.in_err-lines.ensures.memory)
 
-pub returns-then-is_none-clause-serves : goal.returns-then-is_none-clause-serves
-returns-then-is_none-clause-serves g c =
-    let done = c.answered-then-is_none.ensures in
-    let booted = sym c.is_booted.ensures ∙ c.if-not-is_booted.false in
-    let none = ap (λ k. k.replica) (sym c.self.view_is) ∙ none_of c.self.inside.replica (c.is_none.ensures ∙ ap not c.if-is_none.true) in
-    let down = arm_down c.args.self.now (g.M.Disk.images c.args.disk.now) c.args.calls booted none in
-    answered_serves _ _ _ _ (says.Down c.args.replica) c.args.number _ done.lines done.stays done.memory (omega arith) (λ m s. answered_refused m (Arm 0 c.args.calls) (answers.Down c.args.replica) (down m s ∙ ap (λ q. Some (answers.Down q)) (sym c.requires.first)))
-
-pub returns-in_err-lines-clause-serves : goal.returns-in_err-lines-clause-serves
-returns-in_err-lines-clause-serves g c =
-    err_serves c.args.self.now c.answered-2.new.self (g.M.Disk.images c.args.disk.now) (g.M.Disk.images c.args.disk.now) (Arm 0 c.args.calls) c.from_residual.result c.in_err-lines.field-0.0 (λ m s. stands_still c.args.self.now (g.M.Disk.images c.args.disk.now) m s) (err_from_is_err_and _ c.from_residual.ensures.1) c.in_err-lines.ensures.memory
-
-pub returns-clause-serves : goal.returns-clause-serves
-returns-clause-serves g c =
+pub returns : goal.returns
+returns g c =
+    let k = c.args.self.now in
     let done = c.in_ok-lines.ensures in
-    let booted = sym c.is_booted.ensures ∙ c.if-not-is_booted.false in
-    let there = some_of c.self.inside.replica (c.is_none.ensures ∙ ap not c.if-is_none.false) in
-    arm_does c.args.self.now c.answered-2.new.self _ _ there.0 c.args.calls c.args.number _ booted (ap (λ k. k.replica) (sym c.self.view_is) ∙ there.1) (omega arith) c.arm.ensures.stays.no_image_more done.stays done.lines
+    let allowed = unrefused_once k (down_in k 0) c.requires.allowed in
+    let there = some_of k.replica (unrefused_up k 0 allowed.1) in
+    record {
+      serves = arm_does k c.answered.new.self _ _ there.0 c.args.calls c.args.number _ allowed.0 there.1 (omega (arith, c.requires.ready.rising)) c.arm.ensures.stays.no_image_more done.stays done.lines;
+      last = ap (λ (x : Kept). x.last) done.stays;
+      others = done_others c.in_ok-lines.lines done.lines;
+      counted = rose_none _ _ (let f = c.arm.ensures.stays.same_faults in omega (arith, f)) _ (done_faultless 0 c.in_ok-lines.lines done.lines);
+      armed = c.arm.ensures.marks ∙ marks_of_done (Arm 0 c.args.calls) c.in_ok-lines.lines (g.M.Disk.marks c.args.disk.now) done.lines;
+    }

@@ -1,29 +1,38 @@
-use Rattle.std.proofs.Common.{◌≡◌, Some, ◌∙◌, ◌∷◌, [], ap, sym, refl, arith}
+use Rattle.std.proofs.Common.{◌≡◌, ◌∙◌, Some, Ok, List, ◌∷◌, [], ap, sym, subst, refl, arith}
 use Rattle.events.specs.declared.event.Event.TheVariants.{Boot}
-use Rattle.order_machine.specs.declared.observation.Observation.TheVariants as says
-use Rattle.world.proofs.Answered.{answered_serves, answered_refused, boot_refuses}
 use Rattle.config_rule.specs.Rule.{Known, after_active}
 use Rattle.order_machine.specs.Transitions.{first_epoch}
+use Rattle.order_machine.specs.declared.observation.Observation.{Observation}
+use Rattle.world.specs.Handling.{Handles}
 use Rattle.world.specs.Kept.{Kept}
-use Rattle.world.proofs.Booting.{booted_rule, boot_does, rule_told, rule_untold}
+use Rattle.world.proofs.Booting.{booted_rule, boot_does}
+use Rattle.world.proofs.Guards.{unrefused_boot}
+use Rattle.world.proofs.Handled.{marks_same}
+use Rattle.world.proofs.Later.{new_of}
 use Rattle.world.proofs.world.World.boot.Goals as goal
-use Rattle.world.proofs.world.World.boot.Goals.{then-tells_active, else-tells_active}
-use Rattle.events.specs.declared.answer.Answer.TheVariants as answers
+use Rattle.world.proofs.world.World.boot.Goals.{then-effects, else-effects}
 
-pub returns-then-is_booted-clause-serves : goal.returns-then-is_booted-clause-serves
-returns-then-is_booted-clause-serves g c =
-    let done = c.answered.ensures in
-    let booted = sym c.is_booted.ensures ∙ c.if-is_booted.true in
-    let again = boot_refuses c.args.self.now (g.M.Disk.images c.args.disk.now) booted in
-    answered_serves _ _ _ _ (says.Refused 9) c.args.number _ done.lines done.stays done.memory (omega arith) (λ m s. answered_refused m (Boot 0 (0 ∷ [])) (answers.Refused 9) (again m s))
-
-pub returns-clause-serves : goal.returns-clause-serves
-returns-clause-serves g c =
-    let fresh = sym c.is_booted.ensures ∙ c.if-is_booted.false in
+pub returns : goal.returns
+returns g c =
+    let fresh = unrefused_boot c.args.self.now c.requires.allowed in
     let done = c.in_ok-self-inside.ensures in
-    let rule : c.if-tells_active.rule ≡ booted_rule c.boot_replica.new.lines = elim c.if-tells_active.branch [
-      | then-tells_active w ↦ w.rule-is ∙ (w.note_active.ensures ∙ (ap (λ (k : Known). after_active k first_epoch) c.in_ok-rule.ensures ∙ sym (rule_told c.boot_replica.new.lines (sym c.tells_active.ensures ∙ w.if-tells_active.true))))
-      | else-tells_active w ↦ w.rule-is ∙ (c.in_ok-rule.ensures ∙ sym (rule_untold c.boot_replica.new.lines (sym c.tells_active.ensures ∙ w.if-tells_active.false)))
+    let effects = c.boot_replica.new.effects in
+    let rule : c.if-effects.rule ≡ booted_rule effects.active = elim c.if-effects.branch [
+      | then-effects w ↦ w.rule-is ∙ (w.note_active.ensures ∙ (ap (λ (k : Known). after_active k first_epoch) c.in_ok-rule.ensures ∙ sym (ap booted_rule w.if-effects.true)))
+      | else-effects w ↦ w.rule-is ∙ (c.in_ok-rule.ensures ∙ sym (ap booted_rule w.if-effects.false))
     ] in
-    let new : Kept = record { last = c.args.number; rule = Some c.if-tells_active.rule; order = c.self.inside.order; replica = c.in_ok-self-inside.field-0 } in
-    boot_does c.args.self.now new (g.M.Disk.images c.args.disk.now) (g.M.Disk.images c.boot_replica.new.disk) c.in_ok-self-inside.field-0 c.boot_replica.new.lines fresh (omega arith) (ap Some rule) (ap (λ (k : Kept). k.order) c.self.view_is) refl (done.whole, done.stands, done.ruled)
+    let kept = c.finish.ensures.kept in
+    subst (λ (ls : List Observation). Handles g.M.Disk.images g.M.Disk.faults g.M.Disk.marks c.args.self.now c.finish.new.self c.args.disk.now c.boot_replica.new.disk c.args.number (Boot 0 (0 ∷ [])) (Ok ls)) (sym c.finish.ensures.lines)
+    (record {
+      serves = boot_does c.args.self.now c.finish.new.self (g.M.Disk.images c.args.disk.now) (g.M.Disk.images c.boot_replica.new.disk) c.in_ok-self-inside.field-0 effects fresh (let l = ap (λ (k : Kept). k.last) kept in omega (arith, l, c.requires.ready.rising)) (ap (λ (k : Kept). k.rule) kept ∙ ap Some rule) (ap (λ (k : Kept). k.order) kept) (ap (λ (k : Kept). k.replica) kept) (done.whole, done.stands, done.ruled);
+      last = ap (λ (k : Kept). k.last) kept;
+      others = done.others;
+      counted = done.faults;
+      armed = done.marks ∙ marks_same (Boot 0 (0 ∷ [])) effects.lines (g.M.Disk.marks c.args.disk.now) refl;
+    })
+
+-- before the boot there is no log
+pub boot_replica-requires-clause-empty : goal.boot_replica-requires-clause-empty
+boot_replica-requires-clause-empty g c =
+    let s = c.requires.ready.stands in
+    (new_of c.args.self.now (g.M.Disk.images c.args.disk.now) s.0 (unrefused_boot c.args.self.now c.requires.allowed) s.1).empty

@@ -12,4 +12,4 @@ pub returns-clause-elsewhere : goal.returns-clause-elsewhere
 returns-clause-elsewhere g c = λ m s. elsewhere_lent c.args.fleet.now.items c.at_zero.new.disk m c.args.event.now c.requires.here (stands_first c.args.self.now _ m s)
 
 pub returns-clause-faults : goal.returns-clause-faults
-returns-clause-faults g c = faults_lent g.M.Disk.faults c.args.fleet.now.items _ c.at_zero.new.disk c.at_zero.result (search rules) c.index_mut.ensures.value c.at_zero.ensures.others c.at_zero.ensures.faults
+returns-clause-faults g c = faults_lent g.M.Disk.faults c.args.fleet.now.items _ c.at_zero.new.disk c.at_zero.result (search rules) c.index_mut.ensures.value c.at_zero.ensures.others c.at_zero.ensures.counted
