@@ -22,7 +22,7 @@ use Rattle.world.specs.Disks.{DiskHolds, DisksHold, QuorumHolds}
 use Rattle.world.specs.Fleet.{images_of, faults_of, marks_of, faults_in, fault_lines, is_done, marked, marked_by, marks_after, RoseBy}
 use Rattle.world.specs.Kept.{Kept, no_events, has_booted}
 use Rattle.world.specs.World.{StandsFor, AsReplica, AsRole, IsRuled, IsNew, StillHolds, Serves}
-use Rattle.world.proofs.Still.{stands_still}
+use Rattle.world.proofs.States.HeldOrder.{stands_still}
 use Rattle.shell.specs.Fleet.{IsFresh, no_bytes, no_marks, faults_told, marks_told, AreTold, AreToldBut, Keeps}
 use Rattle.shell.specs.Reached.{Done}
 

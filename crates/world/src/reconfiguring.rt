@@ -7,8 +7,8 @@ ghost use Rattle.world.specs.Kept.{Kept};
 ghost use Rattle.world.specs.Handling.{IsReady, Handles, refusal_of, rule_surveyed, rule_active};
 ghost use Rattle.world.specs.World.{StandsFor, IsAppointed};
 
-use crate::error::WorldError;
 use crate::effects::EventEffects;
+use crate::error::WorldError;
 use crate::starting::start_epoch;
 use crate::steps::take_survey;
 use crate::world::World;

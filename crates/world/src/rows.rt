@@ -35,7 +35,7 @@ fn row(alloc: Global, name: &Name, contents: &Contents) -> Result<Words, NoMemor
     Ok(words)
 }
 
-#[tactic(auto, using(crate::proofs::RowKinds::kind_of_rows_of))]
+#[tactic(auto, using(crate::proofs::Exits::RowKinds::kind_of_rows_of))]
 fn push_items(alloc: Global, contents: &Contents, words: &mut Words) -> Result<(), NoMemory>
     ensures { OnOk result (words.new ≡ words.old ++ items_of (rows_in contents.now)) }
 {

@@ -127,7 +127,14 @@ fn take_start<M: CrashDisk>(
     let known = effects.order.saturating_sub(shown) as usize;
     effects.note(outcome.shown, outcome.active);
     tell_orders(outcome.commits, known, &mut effects.lines)?;
-    tell_rise(replica, shown, false, outcome.shown, true, &mut effects.lines)?;
+    tell_rise(
+        replica,
+        shown,
+        false,
+        outcome.shown,
+        true,
+        &mut effects.lines,
+    )?;
     effects.lines.push(Observation::Done)?;
     Ok(())
 }

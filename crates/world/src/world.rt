@@ -9,8 +9,8 @@ ghost use Rattle.world.specs.Kept.{no_events};
 ghost use Rattle.world.specs.Handling.{IsReady, Handles, refusal_of, down_in};
 ghost use Rattle.world.specs.World.{StandsFor, IsHere, Serves, StillHolds};
 
-use crate::error::WorldError;
 use crate::effects::EventEffects;
+use crate::error::WorldError;
 use crate::opening::open_replica;
 use crate::rows::inspected;
 use crate::starting::{FIRST_EPOCH, boot_replica, first_rule};

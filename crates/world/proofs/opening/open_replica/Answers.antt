@@ -1,5 +1,5 @@
 use Rattle.std.proofs.Common.{Err, ap}
-use Rattle.world.proofs.Readable.{never_corrupt}
+use Rattle.world.proofs.Mounts.Readable.{never_corrupt}
 use Rattle.world.proofs.opening.open_replica.Goals as goal
 
 pub unreachable-requires : goal.unreachable-requires

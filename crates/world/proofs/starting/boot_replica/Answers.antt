@@ -1,11 +1,11 @@
-use Rattle.std.proofs.Common.{◌≡◌, ◌∙◌, ◌++◌, ◌∷◌, [], ℕ, suc, List, Ok, Err, Some, None, false, ap, subst, refl, sym, arith}
+use Rattle.std.proofs.Common.{◌≡◌, ◌∙◌, ◌++◌, ◌∷◌, [], ℕ, suc, List, Ok, Err, false, ap, subst, sym, arith}
 use Rattle.order_machine.specs.declared.observation.Observation.{Observation}
 use Rattle.order_machine.specs.declared.observation.Observation.TheVariants as says
 use Rattle.txn_front.specs.Front.{Fronted}
 use Rattle.world.specs.declared.effects.EventEffects.{EventEffects}
 use Rattle.world.specs.Fleet.{faults_in}
-use Rattle.world.proofs.Booting.{IsBootFault, over_new, boot_effects, boots_whole, boots_unopened, boots_unstarted, boot_cut, started_effects, one_fault, fault_of_zero, fresh_may_start}
-use Rattle.world.proofs.Faultless.{fault_first}
+use Rattle.world.proofs.Mounts.Boot.{IsBootFault, over_new, boot_effects, boots_whole, boots_unopened, boots_unstarted, boot_cut, started_effects, one_fault, fault_of_zero, fresh_may_start}
+use Rattle.world.proofs.Exits.FaultCounts.{fault_first}
 use Rattle.world.proofs.starting.boot_replica.Goals as goal
 
 pub returns-in_default-clause-whole : goal.returns-in_default-clause-whole

@@ -1,6 +1,6 @@
 use Rattle.std.proofs.Common.{◌≡◌, ◌∙◌, sym, ap, subst, ℕ, List, [], ◌∷◌, length, arith, IfOk}
 use Rattle.config_rule.specs.Rule.{after_boot}
-use Rattle.world.proofs.Alone.{alone_members}
+use Rattle.world.proofs.States.Alone.{alone_members}
 use Rattle.world.proofs.starting.first_rule.Goals as goal
 
 pub new-requires : goal.new-requires

@@ -3,7 +3,7 @@ use Rattle.replica.specs.declared.step.StepEvent.TheVariants as steps
 use Rattle.replica.specs.Open.{Open}
 use Rattle.world.specs.declared.effects.EventEffects.{EventEffects}
 use Rattle.world.specs.Steps.{log_once}
-use Rattle.world.proofs.Stepping.{barrier_effects, finished_twice, holds_second, stands_second}
+use Rattle.world.proofs.Calls.TwoSteps.{barrier_effects, finished_twice, holds_second, stands_second}
 use Rattle.world.proofs.starting.start_epoch.Goals as goal
 
 pub returns-in_err-take_step-clause-stop : goal.returns-in_err-take_step-clause-stop

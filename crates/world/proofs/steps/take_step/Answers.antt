@@ -1,6 +1,6 @@
 use Rattle.std.proofs.Common.{◌∙◌, ap}
 use Rattle.replica.specs.Open.{Open}
-use Rattle.world.proofs.Stepping.{stepped_id}
+use Rattle.world.proofs.Calls.TwoSteps.{stepped_id}
 use Rattle.world.proofs.steps.take_step.Goals as goal
 
 pub returns-clause-stands : goal.returns-clause-stands

@@ -3,7 +3,7 @@ use Rattle.replica.specs.Open.{Open}
 use Rattle.std.proofs.lemmas.Result.{err_from_is_err_and}
 use Rattle.replica.specs.declared.error.StepError.TheVariants as errors
 use Rattle.world.specs.Steps.{log_once}
-use Rattle.world.proofs.Stepping.{cut_second, effects_twice, due_shows, counted_second, handed_on, finished_twice, last_few, alike_begins}
+use Rattle.world.proofs.Calls.TwoSteps.{cut_second, effects_twice, due_shows, counted_second, handed_on, finished_twice, last_few, alike_begins}
 use Rattle.replica.proofs.Lengthened.{begins_few}
 use Rattle.world.proofs.steps.take_steps.Goals as goal
 

@@ -1,7 +1,7 @@
 use Rattle.std.proofs.Common.{◌∙◌, ap}
 use Rattle.replica.specs.Open.{Open}
 use Rattle.replica.specs.declared.step.StepEvent.TheVariants as steps
-use Rattle.world.proofs.Stepping.{stepped_id}
+use Rattle.world.proofs.Calls.TwoSteps.{stepped_id}
 use Rattle.world.proofs.steps.take_survey.Goals as goal
 
 pub returns-clause-stands : goal.returns-clause-stands

@@ -4,10 +4,10 @@ use Rattle.events.specs.declared.event.Event.TheVariants.{Activate}
 use Rattle.order_machine.specs.declared.observation.Observation.TheVariants as says
 use Rattle.config_rule.specs.Rule.{Known, after_activation}
 use Rattle.world.specs.Kept.{Kept, has_booted}
-use Rattle.world.proofs.Activating.{activation_refused, activation_serves, activated_in}
-use Rattle.world.proofs.Answered.{answered_serves, answered_refused}
-use Rattle.world.proofs.Guards.{unrefused_once}
-use Rattle.world.proofs.Handled.{line_handles, kept_handles, marks_same}
+use Rattle.world.proofs.Epochs.Activation.{activation_refused, activation_serves, activated_in}
+use Rattle.world.proofs.Exits.OneLine.{answered_serves, answered_refused}
+use Rattle.world.proofs.Exits.Guards.{unrefused_once}
+use Rattle.world.proofs.Exits.Common.{line_handles, kept_handles}
 use Rattle.world.proofs.world.World.activate.Goals as goal
 use Rattle.events.specs.declared.answer.Answer.TheVariants as answers
 

@@ -11,11 +11,11 @@ use Rattle.config_rule.specs.Rule.{Known}
 use Rattle.config_rule.specs.declared.error.Broken.{Broken as BrokenPart}
 use Rattle.world.specs.Handling.{Handles}
 use Rattle.world.specs.Kept.{Kept, has_booted}
-use Rattle.world.proofs.Answered.{answered_serves, answered_refused}
-use Rattle.world.proofs.Guards.{unrefused_once}
-use Rattle.world.proofs.Handled.{line_handles, short_handles}
-use Rattle.world.proofs.StartHandlers.{IsAsked, appointed_of, refuses_part}
-use Rattle.world.proofs.Still.{stands_still}
+use Rattle.world.proofs.Exits.OneLine.{answered_serves, answered_refused}
+use Rattle.world.proofs.Exits.Guards.{unrefused_once}
+use Rattle.world.proofs.Exits.Common.{line_handles, short_handles}
+use Rattle.world.proofs.Epochs.StartExits.{IsAsked, appointed_of, refuses_part}
+use Rattle.world.proofs.States.HeldOrder.{stands_still}
 use Rattle.world.proofs.world.World.appoint.Goals as goal
 use Rattle.world.proofs.world.World.appoint.Goals.{in-Ok, in-Err-Broken, in-Err-NoMemory}
 use Rattle.events.specs.declared.answer.Answer.TheVariants as answers

@@ -1,14 +1,14 @@
-use Rattle.std.proofs.Common.{◌≡◌, ◌∙◌, ap, sym, refl, arith}
+use Rattle.std.proofs.Common.{◌∙◌, ap, refl, arith}
 use Rattle.std.proofs.lemmas.Result.{err_from_is_err_and}
 use Rattle.events.specs.declared.event.Event.TheVariants.{Arm}
 use Rattle.world.specs.Kept.{Kept}
 use Rattle.world.specs.Handling.{down_in}
-use Rattle.world.proofs.Faultless.{rose_none}
-use Rattle.world.proofs.Guards.{unrefused_once, unrefused_up}
-use Rattle.world.proofs.Handled.{memory_handles, handed_memory, done_others, done_faultless, marks_of_done}
-use Rattle.world.proofs.Later.{some_of}
-use Rattle.world.proofs.Quietly.{arm_does}
-use Rattle.world.proofs.Still.{stands_still}
+use Rattle.world.proofs.Exits.FaultCounts.{rose_none}
+use Rattle.world.proofs.Exits.Guards.{unrefused_once, unrefused_up}
+use Rattle.world.proofs.Exits.Common.{memory_handles, handed_memory, done_others, done_faultless, marks_of_done}
+use Rattle.world.proofs.States.Later.{some_of}
+use Rattle.world.proofs.Exits.Asides.{arm_does}
+use Rattle.world.proofs.States.HeldOrder.{stands_still}
 use Rattle.world.proofs.world.World.arm.Goals as goal
 
 pub returns-in_err-lines : goal.returns-in_err-lines

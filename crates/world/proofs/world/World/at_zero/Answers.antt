@@ -1,11 +1,10 @@
-use Rattle.std.proofs.Common.{◌≡◌, ◌∙◌, sym, ap, subst, refl, ◌∷◌, [], IfOk, arith}
+use Rattle.std.proofs.Common.{◌≡◌, ◌∙◌, sym, subst, ◌∷◌, [], IfOk, arith}
 use Rattle.order_machine.specs.AnswerLines.{line_of_answer}
 use Rattle.order_machine.specs.declared.observation.Observation.{Observation}
-use Rattle.world.specs.Kept.{Kept}
-use Rattle.world.proofs.Answered.{answered_serves, answered_refused}
-use Rattle.world.proofs.Faultless.{answer_faultless}
-use Rattle.world.proofs.Guards.{refusal_mirrors, refusal_marks}
-use Rattle.world.proofs.Handled.{line_handles}
+use Rattle.world.proofs.Exits.OneLine.{answered_serves, answered_refused}
+use Rattle.world.proofs.Exits.FaultCounts.{answer_faultless}
+use Rattle.world.proofs.Exits.Guards.{refusal_mirrors, refusal_marks}
+use Rattle.world.proofs.Exits.Common.{line_handles}
 use Rattle.world.proofs.world.World.at_zero.Goals as goal
 
 pub returns-in-Some : goal.returns-in-Some

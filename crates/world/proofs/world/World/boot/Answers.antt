@@ -5,10 +5,10 @@ use Rattle.order_machine.specs.Transitions.{first_epoch}
 use Rattle.order_machine.specs.declared.observation.Observation.{Observation}
 use Rattle.world.specs.Handling.{Handles}
 use Rattle.world.specs.Kept.{Kept}
-use Rattle.world.proofs.Booting.{booted_rule, boot_does}
-use Rattle.world.proofs.Guards.{unrefused_boot}
-use Rattle.world.proofs.Handled.{marks_same}
-use Rattle.world.proofs.Later.{new_of}
+use Rattle.world.proofs.Mounts.Boot.{booted_rule, boot_does}
+use Rattle.world.proofs.Exits.Guards.{unrefused_boot}
+use Rattle.world.proofs.Exits.Common.{marks_same}
+use Rattle.world.proofs.States.Later.{new_of}
 use Rattle.world.proofs.world.World.boot.Goals as goal
 use Rattle.world.proofs.world.World.boot.Goals.{then-effects, else-effects}
 

@@ -12,12 +12,12 @@ use Rattle.world.specs.Handling.{Handles}
 use Rattle.world.specs.Kept.{Kept, has_booted}
 use Rattle.world.specs.Steps.{no_effects, effects_after, IsCutOff, told_by}
 use Rattle.world.specs.World.{IsOpen, StandsFor, Serves}
-use Rattle.world.proofs.Clients.{kept, client_done, client_cut, client_cut_still, client_short, client_down, client_there, client_result}
-use Rattle.world.proofs.Faultless.{faulted_rise, others_told, others_cut, told_faultless, rose_none}
-use Rattle.world.proofs.Guards.{unrefused_once}
-use Rattle.world.proofs.Handled.{line_handles, short_handles, last_of_kept, marks_same, marks_same_after}
-use Rattle.world.proofs.Still.{stands_still}
-use Rattle.world.proofs.Calls.{IsDone}
+use Rattle.world.proofs.Calls.AtWorld.{kept, client_done, client_cut, client_cut_still, client_short, client_down, client_there, client_result}
+use Rattle.world.proofs.Exits.FaultCounts.{faulted_rise, others_told, others_cut, told_faultless, rose_none}
+use Rattle.world.proofs.Exits.Guards.{unrefused_once}
+use Rattle.world.proofs.Exits.Common.{line_handles, short_handles, last_of_kept, marks_same, marks_same_after}
+use Rattle.world.proofs.States.HeldOrder.{stands_still}
+use Rattle.world.proofs.Calls.AtReplica.{IsDone}
 use Rattle.world.proofs.world.World.client.Goals as goal
 
 pub returns-in_default : goal.returns-in_default
@@ -93,8 +93,8 @@ returns-in-Err-Disk g c =
     let there = (client_there k r _ c.requires.ready.stands.0 booted some c.requires.ready.stands.1).0 in
     record {
       serves = client_result k c.faulted.new.self (kept k c.args.number None effects.order) (g.M.Disk.images c.args.disk.now) (g.M.Disk.images c.take_call.new.disk) call (effects.lines ++ says.Fault 0 ∷ []) c.faulted.result told closed c.faulted.ensures.memory
-        (λ m s. client_cut_still k c.args.number r call (g.M.Disk.images c.args.disk.now) (g.M.Disk.images c.take_call.new.disk) effects booted some c.requires.ready.rising c.requires.fits cut m s)
-        (client_cut k c.args.number r call (g.M.Disk.images c.args.disk.now) (g.M.Disk.images c.take_call.new.disk) effects booted some c.requires.ready.rising c.requires.fits cut);
+          (λ m s. client_cut_still k c.args.number r call (g.M.Disk.images c.args.disk.now) (g.M.Disk.images c.take_call.new.disk) effects booted some c.requires.ready.rising c.requires.fits cut m s)
+          (client_cut k c.args.number r call (g.M.Disk.images c.args.disk.now) (g.M.Disk.images c.take_call.new.disk) effects booted some c.requires.ready.rising c.requires.fits cut);
       last = last_of_kept c.faulted.new.self (kept k c.args.number None effects.order) c.args.number c.faulted.result closed refl;
       others = others_cut r call there.0 k.order effects (g.M.Disk.images c.take_call.new.disk) c.faulted.result (cut there.0 there.1) told;
       counted = faulted_rise r call there.0 k.order effects (g.M.Disk.images c.take_call.new.disk) _ _ c.faulted.result (cut there.0 there.1) c.in-Err-Disk.ensures.cause.later (c.in-Err-Disk.ensures.cause.rose (search rules)) told;

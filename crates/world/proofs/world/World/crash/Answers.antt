@@ -1,12 +1,12 @@
-use Rattle.std.proofs.Common.{◌≡◌, ◌∙◌, ap, sym, refl, None, arith}
+use Rattle.std.proofs.Common.{◌∙◌, ap, refl, None, arith}
 use Rattle.std.proofs.lemmas.Result.{err_from_is_err_and}
 use Rattle.events.specs.declared.event.Event.TheVariants.{Crash}
 use Rattle.world.specs.Kept.{Kept, has_booted}
-use Rattle.world.proofs.Faultless.{rose_none}
-use Rattle.world.proofs.Guards.{unrefused_once}
-use Rattle.world.proofs.Handled.{memory_handles, handed_memory, done_others, done_faultless, marks_of_done}
-use Rattle.world.proofs.Reopening.{crash_does}
-use Rattle.world.proofs.Still.{stands_still}
+use Rattle.world.proofs.Exits.FaultCounts.{rose_none}
+use Rattle.world.proofs.Exits.Guards.{unrefused_once}
+use Rattle.world.proofs.Exits.Common.{memory_handles, handed_memory, done_others, done_faultless, marks_of_done}
+use Rattle.world.proofs.Mounts.Reboot.{crash_does}
+use Rattle.world.proofs.States.HeldOrder.{stands_still}
 use Rattle.world.proofs.world.World.crash.Goals as goal
 
 pub returns-in_err-lines : goal.returns-in_err-lines

@@ -1,5 +1,5 @@
 use Rattle.std.proofs.Common.{rules}
-use Rattle.world.proofs.Lent.{serves_lent, still_lent, stands_first, elsewhere_lent, faults_lent}
+use Rattle.world.proofs.Exits.LentDisk.{serves_lent, still_lent, stands_first, elsewhere_lent, faults_lent}
 use Rattle.world.proofs.world.World.event.Goals as goal
 
 pub returns-clause-serves : goal.returns-clause-serves

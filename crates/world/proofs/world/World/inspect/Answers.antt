@@ -1,4 +1,4 @@
-use Rattle.std.proofs.Common.{◌≡◌, ◌∙◌, ℕ, suc, List, [], ◌∷◌, length, map, Some, None, ap, sym, refl, arith}
+use Rattle.std.proofs.Common.{◌∙◌, ℕ, ◌∷◌, length, map, ap, sym, refl, arith}
 use Rattle.std.proofs.lemmas.Bool.{false≢true}
 use Rattle.std.proofs.lemmas.Result.{err_from_is_err_and}
 use Rattle.std.specs.Prelude.{is_some}
@@ -9,11 +9,11 @@ use Rattle.coll_model.specs.Effect.{State}
 use Rattle.world.specs.Kept.{Kept}
 use Rattle.world.specs.Fleet.{faults_in}
 use Rattle.world.specs.Handling.{down_in}
-use Rattle.world.proofs.Faultless.{others_rows, rows_faultless, rose_none}
-use Rattle.world.proofs.Guards.{unrefused_once, unrefused_up}
-use Rattle.world.proofs.Handled.{memory_handles, marks_same}
-use Rattle.world.proofs.Quietly.{inspect_does}
-use Rattle.world.proofs.Still.{stands_still}
+use Rattle.world.proofs.Exits.FaultCounts.{others_rows, rows_faultless, rose_none}
+use Rattle.world.proofs.Exits.Guards.{unrefused_once, unrefused_up}
+use Rattle.world.proofs.Exits.Common.{memory_handles, marks_same}
+use Rattle.world.proofs.Exits.Asides.{inspect_does}
+use Rattle.world.proofs.States.HeldOrder.{stands_still}
 use Rattle.world.proofs.world.World.inspect.Goals as goal
 
 pub unreachable-requires : goal.unreachable-requires
@@ -32,7 +32,7 @@ returns g c =
     let told = c.in_ok-lines.ensures in
     record {
       serves = inspect_does c.args.self.now _ (g.M.Disk.images c.args.disk.now) c.in-Some.opened c.args.number c.in_ok-lines.lines allowed.0 some (omega (arith, c.requires.ready.rising)) (ap (λ (k : Kept). record k { last = c.args.number }) c.self.view_is)
-        (told ∙ (ap (λ (q : ℕ). says.State q (length (rows_of c.contents.result.now)) ∷ map says.Rows (rows_of c.contents.result.now)) c.requires.first ∙ ap (λ (state : State). says.State 0 (length (rows_of state)) ∷ map says.Rows (rows_of state)) c.contents.ensures));
+          (told ∙ (ap (λ (q : ℕ). says.State q (length (rows_of c.contents.result.now)) ∷ map says.Rows (rows_of c.contents.result.now)) c.requires.first ∙ ap (λ (state : State). says.State 0 (length (rows_of state)) ∷ map says.Rows (rows_of state)) c.contents.ensures));
       last = refl;
       others = others_rows c.args.replica _ _ c.in_ok-lines.lines told;
       counted = rose_none _ _ (omega arith) (faults_in 0 c.in_ok-lines.lines) (ap (faults_in 0) told ∙ rows_faultless 0 (rows_of c.contents.result.now));

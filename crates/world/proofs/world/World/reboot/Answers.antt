@@ -1,14 +1,12 @@
-use Rattle.std.proofs.Common.{◌≡◌, ◌∙◌, ap, sym, refl, Option, None, arith}
+use Rattle.std.proofs.Common.{◌∙◌, ap, refl, arith}
 use Rattle.std.proofs.lemmas.Result.{err_from_is_err_and}
-use Rattle.events.specs.declared.answer.Answer.{Answer}
-use Rattle.events.specs.declared.answer.Answer.TheVariants as answers
 use Rattle.events.specs.declared.event.Event.TheVariants.{Reboot}
 use Rattle.world.specs.Handling.{already_up_in}
 use Rattle.world.specs.Kept.{Kept, has_booted}
-use Rattle.world.proofs.Guards.{unrefused_once, unrefused_reboot}
-use Rattle.world.proofs.Handled.{memory_handles, marks_same}
-use Rattle.world.proofs.Later.{none_of, closed_of}
-use Rattle.world.proofs.Reopening.{reboot_does, reboot_rise, reboot_others, closed_still}
+use Rattle.world.proofs.Exits.Guards.{unrefused_once, unrefused_reboot}
+use Rattle.world.proofs.Exits.Common.{memory_handles, marks_same}
+use Rattle.world.proofs.States.Later.{none_of, closed_of}
+use Rattle.world.proofs.Mounts.Reboot.{reboot_does, reboot_rise, reboot_others, closed_still}
 use Rattle.world.proofs.world.World.reboot.Goals as goal
 
 pub returns-in_err-self-inside : goal.returns-in_err-self-inside

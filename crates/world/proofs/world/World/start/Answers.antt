@@ -1,4 +1,4 @@
-use Rattle.std.proofs.Common.{rules, ◌≡◌, ◌∙◌, sym, ap, subst, refl, ℕ, ◌++◌, ◌∷◌, [], Some, None, is_some, IfOk, OnOk, arith}
+use Rattle.std.proofs.Common.{rules, ◌≡◌, ◌∙◌, sym, ap, subst, refl, ◌++◌, ◌∷◌, [], Some, is_some, IfOk, arith}
 use Rattle.std.proofs.lemmas.Bool.{false≢true}
 use Rattle.order_machine.specs.declared.observation.Observation.TheVariants as says
 use Rattle.events.specs.declared.event.Event.TheVariants.{Appoint}
@@ -6,8 +6,8 @@ use Rattle.world.specs.declared.effects.EventEffects.{EventEffects}
 use Rattle.world.specs.Handling.{rule_active}
 use Rattle.world.specs.Kept.{Kept}
 use Rattle.world.specs.Steps.{no_effects, effects_started}
-use Rattle.world.proofs.Handled.{short_handles}
-use Rattle.world.proofs.StartHandlers.{IsCutAt, all_effects, room_of, appointed_up, start_handles, cut_handles, short_serves}
+use Rattle.world.proofs.Exits.Common.{short_handles}
+use Rattle.world.proofs.Epochs.StartExits.{IsCutAt, all_effects, room_of, appointed_up, start_handles, cut_handles, short_serves}
 use Rattle.world.proofs.world.World.start.Goals as goal
 
 pub unreachable-requires : goal.unreachable-requires

@@ -1,19 +1,17 @@
-use Rattle.std.proofs.Common.{rules, ◌≡◌, ◌∙◌, sym, ap, subst, refl, ℕ, arith, max, List, [], ◌∷◌, ◌++◌, Option, Some, None, Err, IfOk, OnOk}
+use Rattle.std.proofs.Common.{rules, ◌≡◌, ◌∙◌, sym, ap, subst, ℕ, arith, [], ◌∷◌, ◌++◌, Some, None, IfOk, OnOk}
 use Rattle.std.specs.Prelude.{is_some}
 use Rattle.std.proofs.lemmas.Bool.{false≢true}
 use Rattle.events.specs.declared.event.Event.TheVariants.{Survey}
-use Rattle.order_machine.specs.declared.observation.Observation.{Observation}
 use Rattle.order_machine.specs.declared.observation.Observation.TheVariants as says
 use Rattle.replica.specs.declared.step.StepEvent.TheVariants as steps
 use Rattle.world.specs.declared.effects.EventEffects.{EventEffects}
-use Rattle.world.specs.Kept.{Kept, has_booted}
+use Rattle.world.specs.Kept.{Kept}
 use Rattle.world.specs.Steps.{no_effects, effects_after}
-use Rattle.world.proofs.Clients.{client_there}
-use Rattle.world.proofs.Faultless.{fault_first, rose_none, rose_one}
-use Rattle.world.proofs.Guards.{unrefused_survey}
-use Rattle.world.proofs.Handled.{short_handles, marks_same_after}
-use Rattle.world.proofs.Surveyed.{IsSurveyed}
-use Rattle.world.proofs.Surveying.{surveyed_in, surveyed_still, fault_handles, survey_handles}
+use Rattle.world.proofs.Calls.AtWorld.{client_there}
+use Rattle.world.proofs.Exits.Guards.{unrefused_survey}
+use Rattle.world.proofs.Exits.Common.{short_handles}
+use Rattle.world.proofs.Epochs.SurveyStates.{IsSurveyed}
+use Rattle.world.proofs.Epochs.Survey.{surveyed_in, surveyed_still, fault_handles, survey_handles}
 use Rattle.world.proofs.world.World.survey.Goals as goal
 
 pub unreachable-requires : goal.unreachable-requires

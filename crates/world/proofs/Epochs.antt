@@ -1,0 +1,14 @@
+pub mod Activation
+pub mod Appointment
+pub mod Previous
+pub mod Rule
+pub mod StartCourse
+pub mod StartExits
+pub mod StartLines
+pub mod StartLogs
+pub mod StartStates
+pub mod StartWorld
+pub mod StartMachines
+pub mod SurveyStates
+pub mod Survey
+pub mod SurveyLines

@@ -1,0 +1,9 @@
+pub mod OneLine
+pub mod AsideLines
+pub mod FaultLines
+pub mod FaultCounts
+pub mod LentDisk
+pub mod Asides
+pub mod Guards
+pub mod Common
+pub mod RowKinds

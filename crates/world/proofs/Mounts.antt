@@ -1,0 +1,5 @@
+pub mod BootLines
+pub mod Boot
+pub mod Readable
+pub mod RebootLines
+pub mod Reboot

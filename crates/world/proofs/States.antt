@@ -1,0 +1,11 @@
+pub mod Alone
+pub mod Booted
+pub mod Later
+pub mod PastTxns
+pub mod NothingPending
+pub mod Refusals
+pub mod Roleless
+pub mod Beginnings
+pub mod Logs
+pub mod HeldOrder
+pub mod RoleEnd
