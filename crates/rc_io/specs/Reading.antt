@@ -1,7 +1,7 @@
 -- What the calls of a reader of lines answer.
 use Rattle.std.specs.Prelude.{◌≡◌, ℕ, ◌+◌, ◌≤◌, List, [], ◌∷◌, ◌++◌, length, take, drop, Some, None}
 use Rattle.rc_io.specs.Lines.{raw_lines, line_text}
-use Rattle.rc_io.specs.Limits.{limit_in, limit_of}
+use Rattle.rc_io.specs.Limits.{before_end, limit_in, limit_of}
 use Rattle.rc_io.specs.Reader.{Reading}
 use Rattle.rc_io.specs.declared.line_reader.Next.{Next}
 use Rattle.rc_io.specs.declared.line_reader.Next.TheVariants.{Line, End, Limit, Failed, NoMemory}
@@ -21,12 +21,12 @@ pub record Keeps (old new : Reading) (input input' : List ℕ) : Type 0 where
   pub given : new.given ≡ old.given
 
 -- What a call answers, by the bytes that are to be read before it and behind it: those that the reader took from its
--- source and hasn't given, and those that the source has left.
+-- source and hasn't given, and those that the source has left. A reader whose source failed holds no whole line.
 abbrev pub Answers : Reading → List ℕ → Reading → List ℕ → Next → Type 0
 Answers old input new input' (Line number text) = GivesLine old new input input' text
 Answers old input new input' End = (input ≡ []) × Keeps old new input input'
 Answers old input new input' (Limit which number) = (limit_of old.lines old.given (raw_lines input) ≡ Some which) × Keeps old new input input'
-Answers old input new input' Failed = Keeps old new input input'
+Answers old input new input' Failed = (before_end new.ahead ≡ length new.ahead) × Keeps old new input input'
 Answers old input new input' NoMemory = Keeps old new input input'
 
 -- How lines are numbered, whatever the source tells: from 1 on, each by one more. A limit has the number of the line in

@@ -1,13 +1,15 @@
 -- How a run goes on from one line to the next, and how it ends.
-use Rattle.std.proofs.Common.{◌≡◌, ◌∙◌, sym, ap, subst, ℕ, ◌+◌, List, [], ◌∷◌, ◌++◌, length, take, drop, sum_by, Option, Some, None, Result, Ok, Err, refl, arith, inl, inr, append_assoc, ◌⊎◌}
+use Rattle.std.proofs.Common.{◌≡◌, ◌∙◌, sym, ap, ap₂, subst, ℕ, ◌+◌, ◌≤◌, ◌==◌, Bool, true, false, cond, flat_map, List, [], ◌∷◌, ◌++◌, length, take, drop, sum_by, Option, Some, None, Result, Ok, Err, refl, arith, inl, inr, append_assoc, ◌⊎◌}
 use Rattle.std.proofs.lemmas.List.{append-nil, take-append-drop, length-append}
 use Rattle.std.proofs.lemmas.List.Sums.{sum_by-append}
 use Rattle.std.proofs.lemmas.Option.{none-some}
+use Rattle.std.specs.List.{onto_first}
 use Rattle.std.proofs.lemmas.Bool.{false≢true}
+use Rattle.std.proofs.lemmas.Grind.{flat_map-append}
 use Rattle.rc_base.specs.declared.limit_name.LimitName.{LimitName}
 use Rattle.disk_model.specs.Disk.{Areas, Marks}
 use Rattle.rc_io.specs.Lines.{raw_lines, line_text}
-use Rattle.rc_io.specs.Limits.{limit_in, limit_of}
+use Rattle.rc_io.specs.Limits.{before_end, limit_in, limit_of}
 use Rattle.rc_io.specs.Reader.{Reading}
 use Rattle.rc_io.specs.Reading.{GivesLine}
 use Rattle.events.specs.declared.event.Event.{Event}
@@ -21,8 +23,8 @@ use Rattle.world.specs.Kept.{Kept}
 use Rattle.world.specs.World.{StandsFor}
 use Rattle.shell.specs.Fleet.{Keeps, faults_told}
 use Rattle.shell.specs.Text.{bad_line_text, limit_line_text}
-use Rattle.shell.specs.Ran.{Ending, AtEnd, AtBadLine, AtLimit, CutShort, Ends, IsClean, IsStatusOf, Ran, closing}
-use Rattle.shell.specs.Reached.{Done, Reached, HasEnded, Writes, status_of}
+use Rattle.shell.specs.Ran.{Ending, AtEnd, AtBadLine, AtLimit, CutShort, Ends, ArePrinted, Begins, IsClean, IsStatusOf, Ran, closing}
+use Rattle.shell.specs.Reached.{Done, Reached, HasEnded, RunEnded, Writes, status_of}
 use Rattle.shell.specs.declared.lines.WriteError.{WriteError}
 use Rattle.shell.specs.declared.lines.WriteError.TheVariants.{Failed, NoMemory}
 use Rattle.shell.proofs.Disks.{Did, keeps, rose_none, rose_more, faults_more, marks_more}
@@ -50,18 +52,23 @@ at_first {M} {images} {faults} {marks} {fleet} input held world s = record {
 
 -- ---- the end
 
+-- the lines before one are fewer than those with it
+pub one_less : (before : List (List ℕ)) (raw : List ℕ) → length before ≤ length (before ++ raw ∷ [])
+one_less before raw = omega (arith, length-append before (raw ∷ []))
+
 -- The run ends where the lines that are done are written, and what closes it is written whole or in part.
-pub closes : {M : Type 0} {images : M → Areas → Type 0} {faults : M → ℕ} {marks : M → Marks} {first was fleet : List M} (input held now : List ℕ) (before left : List (List ℕ)) (world : Kept) (holds : Option (List ℕ)) (ending : Ending) (status : ℕ) {T : Type 0} (result : Result T WriteError) →
-    (d : Done images faults marks input held before left first was world now) → ((n : ℕ) → Keeps images faults marks first fleet d.steps left n) → Ends ending before left → IsStatusOf ending status →
-    Writes (closing ending (length before + 1)) (Some now) holds result → HasEnded images faults marks input held first fleet (status_of result status) holds
-closes input held now before left world holds ending status (Ok t) d k e s w =
+pub closes : {M : Type 0} {images : M → Areas → Type 0} {faults : M → ℕ} {marks : M → Marks} {first was fleet : List M} (input held now : List ℕ) (most : ℕ) (before left : List (List ℕ)) (world : Kept) (holds : Option (List ℕ)) (ending : Ending) (status : ℕ) {T : Type 0} (result : Result T WriteError) → length before ≤ most →
+    (d : Done images faults marks input held before left first was world now) → ((n : ℕ) → Keeps images faults marks first fleet d.steps left n) → Ends ending before left → IsStatusOf ending status → ((part : List ℕ) → Begins (transcript_of d.steps) part → ArePrinted ending d.steps part) →
+    Writes (closing ending (length before + 1)) (Some now) holds result → HasEnded images faults marks input held most first fleet (status_of result status) holds
+closes input held now most before left world holds ending status (Ok t) low d k e s p w =
     let text = transcript_of d.steps ++ closing ending (length before + 1) in (
       text,
       w ∙ ap Some (ap (λ xs. xs ++ closing ending (length before + 1)) d.text ∙ append_assoc held (transcript_of d.steps) (closing ending (length before + 1))),
       record { before = before; left = left; steps = d.steps; ending = ending; lines = d.cut; within = d.within; spelled = d.spelled; whole = d.whole; ended = e; text = inl (s, refl) },
       k status,
+      low,
     )
-closes input held now before left world holds ending status (Err Failed) d k e s w =
+closes input held now most before left world holds ending status (Err Failed) low d k e s p w =
     let last = closing ending (length before + 1) in
     let part = take w.0 last in (
       transcript_of d.steps ++ part,
@@ -76,11 +83,12 @@ closes input held now before left world holds ending status (Err Failed) d k e s
         spelled = d.spelled;
         whole = d.whole;
         ended = e;
-        text = inr (refl, (drop w.0 last, append_assoc (transcript_of d.steps) part (drop w.0 last) ∙ ap (λ xs. transcript_of d.steps ++ xs) (take-append-drop w.0 last)));
+        text = inr (refl, (drop w.0 last, append_assoc (transcript_of d.steps) part (drop w.0 last) ∙ ap (λ xs. transcript_of d.steps ++ xs) (take-append-drop w.0 last)), p (transcript_of d.steps ++ part) (part, refl));
       },
       k 5,
+      low,
     )
-closes input held now before left world holds ending status (Err NoMemory) d k e s w = (
+closes input held now most before left world holds ending status (Err NoMemory) low d k e s p w = (
   transcript_of d.steps,
   w ∙ ap Some d.text,
   record {
@@ -96,13 +104,14 @@ closes input held now before left world holds ending status (Err NoMemory) d k e
     text = inl (inr refl, sym (append-nil (transcript_of d.steps)));
   },
   k 8,
+  low,
 )
 
 -- the run ends with nothing more to write
-pub stops : {M : Type 0} {images : M → Areas → Type 0} {faults : M → ℕ} {marks : M → Marks} {first was fleet : List M} (input held now : List ℕ) (before left : List (List ℕ)) (world : Kept) (holds : Option (List ℕ)) (ending : Ending) (status : ℕ) →
+pub stops : {M : Type 0} {images : M → Areas → Type 0} {faults : M → ℕ} {marks : M → Marks} {first was fleet : List M} (input held now : List ℕ) (most : ℕ) (before left : List (List ℕ)) (world : Kept) (holds : Option (List ℕ)) (ending : Ending) (status : ℕ) → length before ≤ most →
     (d : Done images faults marks input held before left first was world now) → Keeps images faults marks first fleet d.steps left status → Ends ending before left → IsStatusOf ending status → closing ending (length before + 1) ≡ [] →
-    holds ≡ Some now → HasEnded images faults marks input held first fleet status holds
-stops input held now before left world holds ending status d k e s c h = (
+    holds ≡ Some now → HasEnded images faults marks input held most first fleet status holds
+stops input held now most before left world holds ending status low d k e s c h = (
   transcript_of d.steps,
   h ∙ ap Some d.text,
   record {
@@ -118,6 +127,7 @@ stops input held now before left world holds ending status d k e s c h = (
     text = inl (s, sym (ap (λ xs. transcript_of d.steps ++ xs) c ∙ append-nil (transcript_of d.steps)));
   },
   k,
+  low,
 )
 
 -- ---- one line
@@ -159,11 +169,11 @@ after_event {M} {images} {faults} {marks} {first} {was} {fleet} input held now n
     }
 
 -- an event that is done, and whose lines are written whole, in part, or not at all
-pub event_cut_off : {M : Type 0} {images : M → Areas → Type 0} {faults : M → ℕ} {marks : M → Marks} {first was fleet : List M} (input held now : List ℕ) (before left : List (List ℕ)) (raw : List ℕ) (old new : Kept) (holds : Option (List ℕ)) (number : ℕ) (event : Event) (lines : List Observation) (n : ℕ) →
+pub event_cut_off : {M : Type 0} {images : M → Areas → Type 0} {faults : M → ℕ} {marks : M → Marks} {first was fleet : List M} (input held now : List ℕ) (most : ℕ) (before left : List (List ℕ)) (raw : List ℕ) (old new : Kept) (holds : Option (List ℕ)) (number : ℕ) (event : Event) (lines : List Observation) (n : ℕ) →
     Done images faults marks input held before (raw ∷ left) first was old now → limit_in (length before) (sum_by length before) raw ≡ None → Spells (line_text raw) event → number ≡ length before + 1 → Did images faults marks old new was fleet event (Ok lines) →
-    holds ≡ Some (now ++ take n (lines_text number lines)) → HasEnded images faults marks input held first fleet 5 holds
+    length (before ++ raw ∷ []) ≤ most → holds ≡ Some (now ++ take n (lines_text number lines)) → HasEnded images faults marks input held most first fleet 5 holds
 unfolding after_event
-event_cut_off {M} {images} {faults} {marks} {first} {was} {fleet} input held now before left raw old new holds number event lines n d l spells at did w =
+event_cut_off {M} {images} {faults} {marks} {first} {was} {fleet} input held now most before left raw old new holds number event lines n d l spells at did low w =
     let text = lines_text number lines in
     let all : Done images faults marks input held (before ++ raw ∷ []) left first fleet new (now ++ text) = after_event input held now (now ++ text) before left raw old new number event lines d l spells at did refl in (
       transcript_of d.steps ++ take n text,
@@ -186,9 +196,11 @@ event_cut_off {M} {images} {faults} {marks} {first} {was} {fleet} input held now
                 ∙ ap (λ xs. transcript_of d.steps ++ xs) (take-append-drop n text)
                 ∙ sym (append-nil (transcript_of all.steps) ∙ written_more d.steps (step_of number event lines)),
           ),
+          (d.steps, step_of number event lines, refl, (take n text, refl)),
         );
       },
       keeps input held (now ++ text) (before ++ raw ∷ []) left new all left 5,
+      low,
     )
 
 -- ---- between two lines
@@ -227,33 +239,124 @@ next_reached input held ahead ahead' now now' old new world world' text r g n d 
 -- ---- the last line
 
 -- the run ends at a bad line
-pub ends_at_bad_line : {M : Type 0} {images : M → Areas → Type 0} {faults : M → ℕ} {marks : M → Marks} {first was fleet : List M} (input held now : List ℕ) (before left : List (List ℕ)) (raw : List ℕ) (world : Kept) (old holds : Option (List ℕ)) (number status : ℕ) {T : Type 0} (result : Result T WriteError) →
-    (d : Done images faults marks input held before (raw ∷ left) first was world now) → ((n : ℕ) → Keeps images faults marks first fleet d.steps (raw ∷ left) n) → IsBad (line_text raw) → number ≡ length before + 1 → old ≡ Some now →
-    Writes (bad_line_text number) old holds result → status ≡ status_of result 3 → HasEnded images faults marks input held first fleet status holds
-ends_at_bad_line {M} {images} {faults} {marks} {first} {was} {fleet} input held now before left raw world old holds number status {T} result d k bad at o w s =
-    let P : ℕ → Type 0 = λ n. HasEnded images faults marks input held first fleet n holds in
+pub ends_at_bad_line : {M : Type 0} {images : M → Areas → Type 0} {faults : M → ℕ} {marks : M → Marks} {first was fleet : List M} (input held now : List ℕ) (most : ℕ) (before left : List (List ℕ)) (raw : List ℕ) (world : Kept) (old holds : Option (List ℕ)) (number status : ℕ) {T : Type 0} (result : Result T WriteError) →
+    (d : Done images faults marks input held before (raw ∷ left) first was world now) → ((n : ℕ) → Keeps images faults marks first fleet d.steps (raw ∷ left) n) → IsBad (line_text raw) → limit_in (length before) (sum_by length before) raw ≡ None → length before ≤ most → number ≡ length before + 1 → old ≡ Some now →
+    Writes (bad_line_text number) old holds result → status ≡ status_of result 3 → HasEnded images faults marks input held most first fleet status holds
+ends_at_bad_line {M} {images} {faults} {marks} {first} {was} {fleet} input held now most before left raw world old holds number status {T} result d k bad within low at o w s =
+    let P : ℕ → Type 0 = λ n. HasEnded images faults marks input held most first fleet n holds in
     let N : ℕ → Type 0 = λ n. Writes (bad_line_text n) (Some now) holds result in
     let O : Option (List ℕ) → Type 0 = λ k. Writes (bad_line_text number) k holds result in
-    subst P (sym s) (closes input held now before (raw ∷ left) world holds AtBadLine 3 result d k bad refl (subst N at (subst O o w)))
+    subst P (sym s) (closes input held now most before (raw ∷ left) world holds AtBadLine 3 result low d k (bad, within) refl (λ part b. b) (subst N at (subst O o w)))
 
 -- the run ends at a limit
-pub ends_at_limit : {M : Type 0} {images : M → Areas → Type 0} {faults : M → ℕ} {marks : M → Marks} {first fleet : List M} (input held now : List ℕ) (before left : List (List ℕ)) (world : Kept) (old holds : Option (List ℕ)) (number status : ℕ) (which : LimitName) {T : Type 0} (result : Result T WriteError) →
-    (d : Done images faults marks input held before left first fleet world now) → limit_of (length before) (sum_by length before) left ≡ Some which → number ≡ length before + 1 → old ≡ Some now →
-    Writes (limit_line_text number which) old holds result → status ≡ status_of result 9 → HasEnded images faults marks input held first fleet status holds
-ends_at_limit {M} {images} {faults} {marks} {first} {fleet} input held now before left world old holds number status which {T} result d reached at o w s =
-    let P : ℕ → Type 0 = λ n. HasEnded images faults marks input held first fleet n holds in
+pub ends_at_limit : {M : Type 0} {images : M → Areas → Type 0} {faults : M → ℕ} {marks : M → Marks} {first fleet : List M} (input held now : List ℕ) (most : ℕ) (before left : List (List ℕ)) (world : Kept) (old holds : Option (List ℕ)) (number status : ℕ) (which : LimitName) {T : Type 0} (result : Result T WriteError) →
+    (d : Done images faults marks input held before left first fleet world now) → limit_of (length before) (sum_by length before) left ≡ Some which → length before ≤ most → number ≡ length before + 1 → old ≡ Some now →
+    Writes (limit_line_text number which) old holds result → status ≡ status_of result 9 → HasEnded images faults marks input held most first fleet status holds
+ends_at_limit {M} {images} {faults} {marks} {first} {fleet} input held now most before left world old holds number status which {T} result d reached low at o w s =
+    let P : ℕ → Type 0 = λ n. HasEnded images faults marks input held most first fleet n holds in
     let N : ℕ → Type 0 = λ n. Writes (limit_line_text n which) (Some now) holds result in
     let O : Option (List ℕ) → Type 0 = λ k. Writes (limit_line_text number which) k holds result in
-    subst P (sym s) (closes input held now before left world holds (AtLimit which) 9 result d (keeps input held now before left world d left) reached refl (subst N at (subst O o w)))
+    subst P (sym s) (closes input held now most before left world holds (AtLimit which) 9 result low d (keeps input held now before left world d left) reached refl (λ part b. b) (subst N at (subst O o w)))
 
--- nothing was done for want of memory
-pub nothing_done : {M : Type 0} {images : M → Areas → Type 0} {faults : M → ℕ} {marks : M → Marks} {fleet : List M} (input held : List ℕ) (holds : Option (List ℕ)) → holds ≡ Some held → HasEnded images faults marks input held fleet fleet 8 holds
+pub eight_four : ◌≡◌ {A = ℕ} 8 4 → ⊥
+eight_four e = cc
+
+-- nothing was done: out of memory
+pub nothing_done : {M : Type 0} {images : M → Areas → Type 0} {faults : M → ℕ} {marks : M → Marks} {fleet : List M} (input held : List ℕ) (holds : Option (List ℕ)) → holds ≡ Some held → RunEnded images faults marks input held input fleet fleet 8 holds
 nothing_done {M} {images} {faults} {marks} {fleet} input held holds h = (
   [],
   h ∙ ap Some (sym (append-nil held)),
   record { before = []; left = raw_lines input; steps = []; ending = CutShort; lines = refl; within = tt; spelled = tt; whole = tt; ended = tt; text = inl (inr refl, refl) },
   record { disks = λ booted. absurd (false≢true booted); faulted = λ r. rose_none (faults_of faults fleet r); armed = inl (λ r. refl) },
+  ([], refl, λ four. absurd (eight_four four)),
 )
+
+-- ---- what was read
+
+flat : List (List ℕ) → List ℕ
+flat raws = flat_map (λ raw. raw) raws
+
+flat_first : (byte : ℕ) (raws : List (List ℕ)) → flat (onto_first byte raws) ≡ byte ∷ flat raws
+flat_first byte [] = refl
+flat_first byte (raw ∷ raws) = refl
+
+-- the lines of an input, one after the other, are the input
+flat_lines : (input : List ℕ) → flat (raw_lines input) ≡ input
+flat_lines [] = refl
+flat_lines (byte ∷ bytes) = by (byte == 10)
+  where
+    by : (b : Bool) → flat (cond b ((byte ∷ []) ∷ raw_lines bytes) (onto_first byte (raw_lines bytes))) ≡ byte ∷ bytes
+    by true = ap (λ (xs : List ℕ). byte ∷ xs) (flat_lines bytes)
+    by false = flat_first byte (raw_lines bytes) ∙ ap (λ (xs : List ℕ). byte ∷ xs) (flat_lines bytes)
+
+-- of two beginnings of the same lines the shorter is a beginning of the longer
+shorter_begins : (b l g t : List (List ℕ)) → b ++ l ≡ g ++ t → length b ≤ length g → (m : List (List ℕ)) × (g ≡ b ++ m)
+shorter_begins [] l g t e low = (g, refl)
+shorter_begins (x ∷ b) l [] t e low = absurd (omega (arith, low))
+shorter_begins (x ∷ b) l (y ∷ g) t e low =
+    let first : y ≡ x = cc in
+    let rest : b ++ l ≡ g ++ t = cc in
+    let more = shorter_begins b l g t rest (omega (arith, low)) in
+    (more.0, ap₂ (λ (z : List ℕ) (zs : List (List ℕ)). z ∷ zs) first more.1)
+
+-- what was read behind the lines that are done
+read_behind : (input ahead unread : List ℕ) (before left given : List (List ℕ)) → raw_lines input ≡ before ++ left → raw_lines input ≡ given ++ raw_lines (ahead ++ unread) → length before ≤ length given →
+    (m : List (List ℕ)) × ((flat before ++ (flat m ++ ahead)) ++ unread ≡ input)
+read_behind input ahead unread before left given lines cut low =
+    let more = shorter_begins before left given (raw_lines (ahead ++ unread)) (sym lines ∙ cut) low in
+    let all : input ≡ flat given ++ (ahead ++ unread) = sym (flat_lines input) ∙ (ap flat cut ∙ (flat_map-append (λ (raw : List ℕ). raw) given (raw_lines (ahead ++ unread)) ∙ ap (λ (xs : List ℕ). flat given ++ xs) (flat_lines (ahead ++ unread)))) in
+    let cut_given : flat given ≡ flat before ++ flat more.0 = ap flat more.1 ∙ flat_map-append (λ (raw : List ℕ). raw) before more.0 in (
+      more.0,
+      ap (λ (xs : List ℕ). xs ++ unread) (sym (append_assoc (flat before) (flat more.0) ahead)) ∙ (append_assoc (flat before ++ flat more.0) ahead unread ∙ sym (all ∙ ap (λ (xs : List ℕ). xs ++ (ahead ++ unread)) cut_given)),
+    )
+
+pub zero_four : ◌≡◌ {A = ℕ} 0 4 → ⊥
+zero_four e = cc
+
+-- a line that tells a limit leaves another status than that of a failed source
+pub limit_status : {T : Type 0} (result : Result T WriteError) (status : ℕ) → status ≡ status_of result 9 → status ≡ 4 → ⊥
+limit_status (Ok t) status is four = cc
+limit_status (Err Failed) status is four = cc
+limit_status (Err NoMemory) status is four = cc
+
+-- the lines that the reader gave, and what it holds then
+pub lines_read : {M : Type 0} {images : M → Areas → Type 0} {faults : M → ℕ} {marks : M → Marks} {first fleet : List M} (input held ahead ahead' now : List ℕ) (old new : Reading) (world : Kept) (text : List ℕ) (r : Reached images faults marks input held old first fleet world ahead now) (g : GivesLine old new ahead ahead' text) →
+    raw_lines input ≡ (r.before ++ g.raw ∷ []) ++ raw_lines ahead'
+lines_read input held ahead ahead' now old new world text r g = r.done.cut ∙ (ap (λ xs. r.before ++ xs) g.first ∙ sym (append_assoc r.before (g.raw ∷ []) (raw_lines ahead')))
+
+-- where nothing was given, the same is left
+pub done_at : {M : Type 0} {images : M → Areas → Type 0} {faults : M → ℕ} {marks : M → Marks} {first fleet : List M} (input held now : List ℕ) (before : List (List ℕ)) (ahead ahead' : List ℕ) (world : Kept) → Done images faults marks input held before (raw_lines ahead) first fleet world now → ahead ≡ ahead' → Done images faults marks input held before (raw_lines ahead') first fleet world now
+done_at {M} {images} {faults} {marks} {first} {fleet} input held now before ahead ahead' world d same = subst (λ (xs : List ℕ). Done images faults marks input held before (raw_lines xs) first fleet world now) same d
+
+-- a run that ended with another status than that of a failed source
+pub ended_read : {M : Type 0} {images : M → Areas → Type 0} {faults : M → ℕ} {marks : M → Marks} {first fleet : List M} (input held ahead unread : List ℕ) (given : List (List ℕ)) (most status : ℕ) (holds : Option (List ℕ)) → raw_lines input ≡ given ++ raw_lines (ahead ++ unread) → most ≡ length given → (status ≡ 4 → ⊥) →
+    HasEnded images faults marks input held most first fleet status holds → RunEnded images faults marks input held unread first fleet status holds
+ended_read input held ahead unread given most status holds cut counted other h =
+    let read = read_behind input ahead unread h.2.before h.2.left given h.2.lines cut (let low = h.4 in omega (arith, low, counted)) in
+    (h.0, h.1, h.2, h.3, (flat read.0 ++ ahead, read.1, λ four. absurd (other four)))
+
+-- the source failed
+pub failed_read : {M : Type 0} {images : M → Areas → Type 0} {faults : M → ℕ} {marks : M → Marks} {first fleet : List M} (input held now ahead unread : List ℕ) (before : List (List ℕ)) (world : Kept) (holds : Option (List ℕ)) →
+    (d : Done images faults marks input held before (raw_lines (ahead ++ unread)) first fleet world now) → before_end ahead ≡ length ahead → holds ≡ Some now → RunEnded images faults marks input held unread first fleet 4 holds
+failed_read input held now ahead unread before world holds d open h =
+    let all : input ≡ flat before ++ (ahead ++ unread) = sym (flat_lines input) ∙ (ap flat d.cut ∙ (flat_map-append (λ (raw : List ℕ). raw) before (raw_lines (ahead ++ unread)) ∙ ap (λ (xs : List ℕ). flat before ++ xs) (flat_lines (ahead ++ unread)))) in (
+      transcript_of d.steps,
+      h ∙ ap Some d.text,
+      record {
+        before = before;
+        left = raw_lines (ahead ++ unread);
+        steps = d.steps;
+        ending = CutShort;
+        lines = d.cut;
+        within = d.within;
+        spelled = d.spelled;
+        whole = d.whole;
+        ended = tt;
+        text = inl (inl refl, sym (append-nil (transcript_of d.steps)));
+      },
+      keeps input held now before (raw_lines (ahead ++ unread)) world d (raw_lines (ahead ++ unread)) 4,
+      (ahead, append_assoc (flat before) ahead unread ∙ sym all, λ four. open),
+    )
 
 -- ---- completeness
 
@@ -263,7 +366,7 @@ complete input status written r clean source sink = by_text r.text
   where
     at : (ending : Ending) → Ends ending r.before r.left → IsStatusOf ending status → (status ≡ 0) ⊎ (status ≡ 8)
     at AtEnd e s = inl s
-    at AtBadLine e s = absurd ((clean r.before r.left r.lines).1 r.steps r.spelled r.whole e)
+    at AtBadLine e s = absurd ((clean r.before r.left r.lines).1 r.steps r.spelled r.whole e.0)
     at (AtLimit which) e s = absurd (none-some which (sym (clean r.before r.left r.lines).0 ∙ e))
     at CutShort e (inl s) = absurd (source s)
     at CutShort e (inr s) = inr s

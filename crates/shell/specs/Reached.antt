@@ -1,5 +1,5 @@
 -- How far a run has come between two lines of its input.
-use Rattle.std.specs.Prelude.{◌≡◌, ℕ, List, [], ◌++◌, length, take, sum_by, Option, Some, None, Result, Ok, Err}
+use Rattle.std.specs.Prelude.{◌≡◌, ℕ, ◌≤◌, List, [], ◌++◌, length, take, sum_by, Option, Some, None, Result, Ok, Err}
 use Rattle.std.specs.Io.KnownBytes.{append_known}
 use Rattle.disk_model.specs.Disk.{Areas, Marks}
 use Rattle.rc_io.specs.Lines.{raw_lines}
@@ -12,7 +12,7 @@ use Rattle.world.specs.Kept.{Kept}
 use Rattle.world.specs.World.{StandsFor}
 use Rattle.shell.specs.Fleet.{faults_told, AreTold, Keeps}
 use Rattle.shell.specs.Script.{AreSteps, AreWithin}
-use Rattle.shell.specs.Ran.{Ran}
+use Rattle.shell.specs.Ran.{Ran, IsRead}
 use Rattle.shell.specs.declared.lines.WriteError.{WriteError}
 use Rattle.shell.specs.declared.lines.WriteError.TheVariants.{Failed, NoMemory}
 
@@ -36,10 +36,16 @@ pub record Reached {M : Type 0} (images : M → Areas → Type 0) (faults : M �
   pub given : sum_by length before ≡ reader.given
   pub done : Done images faults marks input held before (raw_lines ahead) first fleet world holds
 
--- The run ended with this status, with what it wrote behind what the sink held, and with the fleet as it promises.
-abbrev pub HasEnded : {M : Type 0} → (M → Areas → Type 0) → (M → ℕ) → (M → Marks) → List ℕ → List ℕ → List M → List M → ℕ → Option (List ℕ) → Type 0
-HasEnded images faults marks input held first fleet status holds =
-    (written : List ℕ) × (holds ≡ Some (held ++ written)) × (ran : Ran input status written) × Keeps images faults marks first fleet ran.steps ran.left status
+-- The run ended with this status, with what it wrote behind what the sink held, and with the fleet as it promises. At most
+-- so many lines are done.
+abbrev pub HasEnded : {M : Type 0} → (M → Areas → Type 0) → (M → ℕ) → (M → Marks) → List ℕ → List ℕ → ℕ → List M → List M → ℕ → Option (List ℕ) → Type 0
+HasEnded images faults marks input held most first fleet status holds =
+    (written : List ℕ) × (holds ≡ Some (held ++ written)) × (ran : Ran input status written) × Keeps images faults marks first fleet ran.steps ran.left status × (length ran.before ≤ most)
+
+-- The same of a whole run, and the source has this left.
+abbrev pub RunEnded : {M : Type 0} → (M → Areas → Type 0) → (M → ℕ) → (M → Marks) → List ℕ → List ℕ → List ℕ → List M → List M → ℕ → Option (List ℕ) → Type 0
+RunEnded images faults marks input held unread first fleet status holds =
+    (written : List ℕ) × (holds ≡ Some (held ++ written)) × (ran : Ran input status written) × Keeps images faults marks first fleet ran.steps ran.left status × IsRead status input ran.before unread
 
 -- all of the text is written, or only a part from its front, or nothing for want of memory
 abbrev pub Writes : {T : Type 0} → List ℕ → Option (List ℕ) → Option (List ℕ) → Result T WriteError → Type 0
@@ -50,7 +56,7 @@ Writes text old new (Err NoMemory) = new ≡ old
 -- behind a line: it is done too, or the run has ended
 abbrev pub GoesOn : {M : Type 0} → (M → Areas → Type 0) → (M → ℕ) → (M → Marks) → List ℕ → List ℕ → List (List ℕ) → List (List ℕ) → List M → List M → Kept → Option (List ℕ) → Option ℕ → Type 0
 GoesOn images faults marks input held before left first fleet world holds None = (now : List ℕ) × (holds ≡ Some now) × Done images faults marks input held before left first fleet world now
-GoesOn images faults marks input held before left first fleet world holds (Some status) = HasEnded images faults marks input held first fleet status holds
+GoesOn images faults marks input held before left first fleet world holds (Some status) = HasEnded images faults marks input held (length before) first fleet status holds
 
 -- the status of a run whose last line was to be written
 abbrev pub status_of : {T : Type 0} → Result T WriteError → ℕ → ℕ

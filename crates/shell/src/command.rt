@@ -5,11 +5,11 @@ ghost use Rattle.world.specs.Fleet.{images_of};
 ghost use Rattle.world.specs.World.{StandsFor};
 ghost use Rattle.shell.specs.Text as text;
 ghost use Rattle.shell.specs.Fleet.{IsFresh, Keeps};
-ghost use Rattle.shell.specs.Ran.{Ran, Begins, IsClean};
+ghost use Rattle.shell.specs.Ran.{Ran, Begins, IsClean, IsRead};
 ghost use Rattle.rc_io.specs.Lines.{line_text};
 ghost use Rattle.rc_io.specs.Limits.{limit_in};
 ghost use Rattle.script_text.specs.Sentence.{Spells, IsBuilt};
-ghost use Rattle.shell.specs.Reached.{Done, HasEnded, GoesOn, status_of};
+ghost use Rattle.shell.specs.Reached.{Done, RunEnded, GoesOn, status_of};
 
 use crate::kit::Kit;
 use crate::lines::{WriteError, write_bad_line, write_limit, write_lines, write_usage};
@@ -39,9 +39,9 @@ use world::{World, WorldError};
 /// |---|---|
 /// | 0 | the input was read to its end |
 /// | 2 | the words are no command; the usage line is written |
-/// | 3 | a bad line, behind the events of the lines before it; `N stop 3` is written |
-/// | 4 | the source failed |
-/// | 5 | the sink failed, which holds the first bytes of what was to be written |
+/// | 3 | a bad line that reaches no limit, after the events of the lines before it; `N stop 3` is written |
+/// | 4 | the source failed; what was read of it is the lines that were done, and a part of the next one |
+/// | 5 | the sink failed, which holds the first bytes of what was to be written: all lines of the events before the last one |
 /// | 8 | want of memory |
 /// | 9 | a limit is reached; `N stop 9 LIMIT` is written |
 pub fn run<S: Source, K: Sink, M: CrashDisk, H: Host>(
@@ -64,7 +64,8 @@ pub fn run<S: Source, K: Sink, M: CrashDisk, H: Host>(
 
     // The transcript is one run of the order machine, whose events were done on the disks of the fleet.
     ensures ran { (input held : List ℕ) → map string_bytes words.now ≡ codes "world" ∷ [] → S.left source.old ≡ Some input → K.holds sink.old ≡ Some held →
-        (written : List ℕ) × (K.holds sink.new ≡ Some (held ++ written)) × (ran : Ran input result written) × Keeps M.images M.faults M.marks fleet.old.items fleet.new.items ran.steps ran.left result }
+        (unread written : List ℕ) × (S.left source.new ≡ Some unread) × (K.holds sink.new ≡ Some (held ++ written)) × (ran : Ran input result written)
+        × Keeps M.images M.faults M.marks fleet.old.items fleet.new.items ran.steps ran.left result × IsRead result input ran.before unread }
 
     // An input without a bad line and within the limits is done to its end, where neither the source nor the sink fails.
     ensures complete { (input held : List ℕ) → map string_bytes words.now ≡ codes "world" ∷ [] → S.left source.old ≡ Some input → K.holds sink.old ≡ Some held →
@@ -111,7 +112,7 @@ fn run_world<S: Source, K: Sink, M: CrashDisk>(
     requires fresh { All (IsFresh M.images M.faults M.marks M.calls_left) fleet.old.items }
     ensures status { result ≢ 2 }
     ensures ran { (input held : List ℕ) → S.left source.old ≡ Some input → K.holds sink.old ≡ Some held →
-        HasEnded M.images M.faults M.marks input held fleet.old.items fleet.new.items result (K.holds sink.new) }
+        (unread : List ℕ) × (S.left source.new ≡ Some unread) × RunEnded M.images M.faults M.marks input held unread fleet.old.items fleet.new.items result (K.holds sink.new) }
     ensures source_fault { Counted (S.faults source.old) (S.faults source.new) (result ≡ 4) }
     ensures sink_fault { Counted (K.faults sink.old) (K.faults sink.new) (result ≡ 5) }
 {

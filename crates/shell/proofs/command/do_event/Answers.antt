@@ -7,7 +7,7 @@ use Rattle.shell.specs.Reached.{Writes}
 use Rattle.shell.specs.declared.lines.WriteError.{WriteError}
 use Rattle.shell.proofs.Calls.{here}
 use Rattle.shell.proofs.Disks.{Did, keeps_failed, keeps_unwritten}
-use Rattle.shell.proofs.Reach.{after_event, event_cut_off, stops}
+use Rattle.shell.proofs.Reach.{after_event, event_cut_off, one_less, stops}
 use Rattle.shell.proofs.command.do_event.Goals as goal
 
 pub event-requires-clause-here : goal.event-requires-clause-here
@@ -18,7 +18,7 @@ returns-in-Err-NoMemory-clause-done g c =
     let did : Did g.M.Disk.images g.M.Disk.faults g.M.Disk.marks c.args.world.now c.event.new.self c.args.fleet.now.items c.event.new.fleet.items c.args.event.now (Err c.in-Err-NoMemory.field-0) =
     record { serves = c.in-Err-NoMemory.ensures.serves; still = c.in-Err-NoMemory.ensures.still; faulted = c.in-Err-NoMemory.ensures.faults; marked = c.in-Err-NoMemory.ensures.marks } in
     λ input held holds before left raw first spells at l d h.
-    stops input held holds before (raw ∷ left) c.args.world.now _ CutShort 8 d
+    stops input held holds _ before (raw ∷ left) c.args.world.now _ CutShort 8 (one_less before raw) d
     (keeps_failed input held holds before (raw ∷ left) c.args.world.now c.event.new.self c.args.event.now c.in-Err-NoMemory.field-0 d did (raw ∷ left) 8) tt (inr refl) refl h
 
 pub returns-in-Ok-write_lines-clause-done : goal.returns-in-Ok-write_lines-clause-done
@@ -39,7 +39,7 @@ returns-in-Err-Failed-clause-done g c =
     let S : List Observation → Type 0 = λ ls. Did g.M.Disk.images g.M.Disk.faults g.M.Disk.marks c.args.world.now c.event.new.self c.args.fleet.now.items c.event.new.fleet.items c.args.event.now (Ok ls) in
     let did = subst S (sym c.as_slice.ensures) (record { serves = c.in-Ok.ensures.serves; still = c.in-Ok.ensures.still; faulted = c.in-Ok.ensures.faults; marked = c.in-Ok.ensures.marks }) in
     λ input held holds before left raw first spells at l d h.
-    event_cut_off input held holds before left raw c.args.world.now c.event.new.self _ c.args.number c.args.event.now c.as_slice.result.now wrote.0 d l spells at did
+    event_cut_off input held holds _ before left raw c.args.world.now c.event.new.self _ c.args.number c.args.event.now c.as_slice.result.now wrote.0 d l spells at did (omega arith)
     (wrote.1 ∙ ap (λ o. append_known o (take wrote.0 text)) h)
 
 pub returns-clause-done : goal.returns-clause-done
@@ -49,5 +49,5 @@ returns-clause-done g c =
     let did : Did g.M.Disk.images g.M.Disk.faults g.M.Disk.marks c.args.world.now c.event.new.self c.args.fleet.now.items c.event.new.fleet.items c.args.event.now (Ok c.in-Ok.lines) =
     record { serves = c.in-Ok.ensures.serves; still = c.in-Ok.ensures.still; faulted = c.in-Ok.ensures.faults; marked = c.in-Ok.ensures.marks } in
     λ input held holds before left raw first spells at l d h.
-    stops input held holds before (raw ∷ left) c.args.world.now _ CutShort 8 d
+    stops input held holds _ before (raw ∷ left) c.args.world.now _ CutShort 8 (one_less before raw) d
     (keeps_unwritten input held holds before left raw c.args.world.now c.event.new.self c.args.event.now c.in-Ok.lines d did spells) tt (inr refl) refl (wrote ∙ h)

@@ -4,7 +4,7 @@ use Rattle.events.specs.declared.event.Event.{Event}
 use Rattle.script_text.specs.Sentence.{Spells, IsSkipped, IsBad}
 use Rattle.shell.specs.Ran.{CutShort}
 use Rattle.shell.proofs.Disks.{keeps}
-use Rattle.shell.proofs.Reach.{ends_at_bad_line, after_skipped, stops}
+use Rattle.shell.proofs.Reach.{ends_at_bad_line, after_skipped, one_less, stops}
 use Rattle.shell.proofs.command.do_line.Goals as goal
 
 pub returns-in-Ok-None-clause-done : goal.returns-in-Ok-None-clause-done
@@ -25,10 +25,10 @@ pub returns-in-Err-BadLine-clause-done : goal.returns-in-Err-BadLine-clause-done
 returns-in-Err-BadLine-clause-done g c =
     let bad : IsBad c.args.line.now = c.in-Err-BadLine.ensures.bad (ap Err c.in-Err-BadLine.field-0-is) in
     λ input held holds before left raw first text at l d h.
-    ends_at_bad_line input held holds before left raw c.args.world.now _ _ c.args.number c.ended.result c.write_bad_line.result d
+    ends_at_bad_line input held holds _ before left raw c.args.world.now _ _ c.args.number c.ended.result c.write_bad_line.result d
     (keeps input held holds before (raw ∷ left) c.args.world.now d (raw ∷ left))
-    (subst IsBad text bad) at h c.write_bad_line.ensures.writes c.ended.ensures
+    (subst IsBad text bad) l (one_less before raw) at h c.write_bad_line.ensures.writes c.ended.ensures
 
 pub returns-in-Err-NoMemory-clause-done : goal.returns-in-Err-NoMemory-clause-done
 returns-in-Err-NoMemory-clause-done g c = λ input held holds before left raw first text at l d h.
-    stops input held holds before (raw ∷ left) c.args.world.now _ CutShort 8 d (keeps input held holds before (raw ∷ left) c.args.world.now d (raw ∷ left) 8) tt (inr refl) refl h
+    stops input held holds _ before (raw ∷ left) c.args.world.now _ CutShort 8 (one_less before raw) d (keeps input held holds before (raw ∷ left) c.args.world.now d (raw ∷ left) 8) tt (inr refl) refl h
