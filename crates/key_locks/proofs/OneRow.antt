@@ -4,7 +4,7 @@ use Rattle.std.specs.List.{position, position_or_len, list_any}
 use Rattle.std.specs.Option.{option_map}
 use Rattle.std.proofs.lemmas.List.Quantifiers.{position-Some}
 use Rattle.std.proofs.lemmas.List.Sums.{fails_before_first}
-use Rattle.std.proofs.lemmas.Bool.{ltb-false, or_cases, or_parts}
+use Rattle.std.proofs.lemmas.Bool.{ltb-false, or_cases, or_parts, or_right}
 use Rattle.rc_base.specs.declared.ids.TxnId.{TxnId}
 use Rattle.key_locks.specs.declared.lock_mode.LockMode.{LockMode}
 use Rattle.key_locks.specs.declared.holders.Holder.{Holder}
@@ -48,10 +48,6 @@ granted_behind txn mode hs none =
     granted_last txn mode hs (record { txn = txn; mode = mode }) (λ k lt. fails_before_first (is_holder txn) hs k (record { txn = txn; mode = mode }) (omega arith))
 
 -- ---- who is in a row
-
-or_right : (a b : Bool) → b ≡ true → (a || b) ≡ true
-or_right true b h = refl
-or_right false b h = h
 
 -- who holds after a grant held before, or is the one that asked
 pub in_granted : (t txn : TxnId) (mode : LockMode) (hs : List Holder) → list_any (is_holder t) (granted_in hs txn mode) ≡ true

@@ -9,17 +9,18 @@ use Rattle.gated_log.specs.Log.{placed_from}
 use Rattle.log_records.specs.declared.record.Record.{Record}
 use Rattle.log_records.specs.declared.record.Physical.{Physical}
 use Rattle.log_records.specs.declared.record.Physical.TheVariants.{Logical, Fence, TruncateTail, CheckpointDone, Reset, Head}
+use Rattle.txn_table.specs.Log.{last_epoch}
+use Rattle.txn_table.proofs.LogGrowth.{not_lower, last_from-push}
 use Rattle.log_store.specs.declared.fold.Standing.{Standing}
 use Rattle.log_store.specs.declared.kept.Kept.{Kept}
 use Rattle.log_store.specs.declared.kept.Row.{Row}
 use Rattle.log_store.specs.Epochs.{later}
 use Rattle.rc_base.specs.Ids.{no_epoch}
 use Rattle.log_store.specs.Payload.{records_of}
-use Rattle.log_store.specs.Log.{last_epoch}
 use Rattle.log_store.specs.Fold.{Place, told, and_then, items_of, step, folded, behind_items, behind_block, behind_blocks, first_wrong, judged, kept_of, kept_behind, held_by}
 use Rattle.log_store.specs.Growth.{MayCome, after_one, after, GoesOn}
-use Rattle.log_store.proofs.Order.{not_lower, later_swap, later_over}
-use Rattle.log_store.proofs.Rows.{items_of-append, length-items_of, last_from-push, right-push, in_place}
+use Rattle.log_store.proofs.Order.{later_swap, later_over}
+use Rattle.log_store.proofs.Rows.{items_of-append, length-items_of, right-push, in_place}
 
 -- what stands behind one record that may come
 record Steps (place : ℕ) (s : Standing) (item : Physical) : Type 0 where

@@ -9,11 +9,11 @@ use Rattle.gated_log.specs.declared.block.Block.{Block}
 use Rattle.log_records.specs.declared.record.Record.{Record}
 use Rattle.log_records.specs.declared.record.Physical.{Physical}
 use Rattle.log_records.specs.declared.record.Physical.TheVariants.{Logical, Fence, TruncateTail, CheckpointDone, Reset, Head}
+use Rattle.txn_table.specs.Log.{Items, last_epoch, may_follow, IsLogAfter, IsLog, no_base}
 use Rattle.log_store.specs.declared.fold.Standing.{Standing}
 use Rattle.log_store.specs.declared.kept.Kept.{Kept}
 use Rattle.log_store.specs.declared.kept.Row.{Row}
 use Rattle.log_store.specs.Payload.{records_of}
-use Rattle.log_store.specs.Log.{Items, last_epoch, may_follow, IsLogBehind, IsLog}
 use Rattle.log_store.specs.Fold.{told, and_then, items_of, is_in_place, first_wrong, opening, step, folded, reset_at, opened, behind_items, behind_block, behind_blocks, no_log, held_by}
 use Rattle.log_store.specs.Durable.{second_holds, durable_of}
 use Rattle.log_store.proofs.Rows.{items_of-append, stands_in_place, linked_in_place}
@@ -104,13 +104,13 @@ blocks_order area (block ∷ blocks) s t order is = by (behind_block s block) re
 
 -- ---- the judgement
 
-rows_log : (before : Items) (rows : List Row) → first_wrong before rows ≡ None → Follow before (items_of rows) → IsLogBehind before (items_of rows)
+rows_log : (before : Items) (rows : List Row) → first_wrong before rows ≡ None → Follow before (items_of rows) → IsLogAfter no_base before (items_of rows)
 rows_log before [] right all = tt
 rows_log before (row ∷ rows) right all = by (is_in_place before row) refl right (λ e. rows_log (before ++ (row.epoch, row.body) ∷ []) rows e all.1)
   where
     by : (b : Bool) → is_in_place before row ≡ b → (if b then first_wrong (before ++ (row.epoch, row.body) ∷ []) rows else Some row.place) ≡ None
-        → (first_wrong (before ++ (row.epoch, row.body) ∷ []) rows ≡ None → IsLogBehind (before ++ (row.epoch, row.body) ∷ []) (items_of rows))
-        → IsLogBehind before ((row.epoch, row.body) ∷ items_of rows)
+        → (first_wrong (before ++ (row.epoch, row.body) ∷ []) rows ≡ None → IsLogAfter no_base (before ++ (row.epoch, row.body) ∷ []) (items_of rows))
+        → IsLogAfter no_base before ((row.epoch, row.body) ∷ items_of rows)
     by true is e rest = (record { follows = all.0; stands = stands_in_place before row is; linked = linked_in_place before row is }, rest e)
     by false is e rest = absurd cc
 

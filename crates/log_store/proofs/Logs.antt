@@ -1,50 +1,12 @@
--- Logs that grow: their rules, their transactions, and what records behind them change.
-use Rattle.std.proofs.Common.{append_assoc, ◌≡◌, ℕ, ◌+◌, List, [], ◌∷◌, ◌++◌, length, refl, sym, ap, ◌∙◌, subst, arith}
+-- What the records change that go on with a log.
+use Rattle.std.proofs.Common.{append_assoc, ◌≡◌, ℕ, ◌+◌, List, [], ◌∷◌, ◌++◌, length, refl, sym, ◌∙◌, arith}
 use Rattle.std.proofs.lemmas.List.{append-nil, length-append}
-use Rattle.rc_base.specs.declared.ids.Epoch.{Epoch}
-use Rattle.log_records.specs.declared.record.Record.{Record}
 use Rattle.log_records.specs.declared.record.Physical.{Physical}
 use Rattle.log_records.specs.declared.record.Physical.TheVariants.{Logical, Fence, TruncateTail, CheckpointDone, Reset, Head}
-use Rattle.txn_table.specs.Commits.{Logged, known, commits, commit_in, one_or_none}
-use Rattle.txn_table.specs.Tables.{with_records}
-use Rattle.txn_table.proofs.Records.{known_append}
-use Rattle.txn_table.proofs.Logs.{commits_push}
+use Rattle.txn_table.proofs.LogGrowth.{log_push}
+use Rattle.txn_table.specs.Log.{Items, IsLogAfter, IsLog, no_base}
 use Rattle.log_store.specs.declared.kept.Kept.{Kept}
-use Rattle.log_store.specs.Log.{Items, numbered, known_in, commits_in, MayStandBehind, IsLogBehind, IsLog}
 use Rattle.log_store.specs.Growth.{after_one, after, GoesOn}
-
--- ---- positions
-
--- a record at this position
-abbrev pub logged_at : ℕ → Epoch × Record → Logged
-logged_at lsn item = (record { 0 = lsn }, item.1)
-
-pub numbered-append : (lsn : ℕ) (xs ys : Items) → numbered lsn (xs ++ ys) ≡ numbered lsn xs ++ numbered (lsn + length xs) ys
-numbered-append lsn [] ys = ap (λ (n : ℕ). numbered n ys) (omega arith)
-numbered-append lsn (x ∷ xs) ys =
-    ap (λ (l : List Logged). logged_at lsn x ∷ l) (numbered-append (lsn + 1) xs ys ∙ ap (λ (n : ℕ). numbered (lsn + 1) xs ++ numbered n ys) (omega arith))
-
--- one more record
-pub numbered-push : (log : Items) (item : Epoch × Record) → numbered 1 (log ++ item ∷ []) ≡ numbered 1 log ++ logged_at (length log + 1) item ∷ []
-numbered-push log item = numbered-append 1 log (item ∷ []) ∙ ap (λ (n : ℕ). numbered 1 log ++ logged_at n item ∷ []) (omega arith)
-
-pub known_in-push : (log : Items) (item : Epoch × Record) → known_in (log ++ item ∷ []) ≡ with_records (known_in log) (logged_at (length log + 1) item ∷ [])
-known_in-push log item = ap (λ (rs : List Logged). known [] rs) (numbered-push log item) ∙ known_append [] (numbered 1 log) (logged_at (length log + 1) item ∷ [])
-
-pub commits_in-push : (log : Items) (item : Epoch × Record) → commits_in (log ++ item ∷ []) ≡ commits_in log ++ one_or_none (commit_in (known_in log) item.1)
-commits_in-push log item = ap (λ (rs : List Logged). commits [] rs) (numbered-push log item) ∙ commits_push [] (numbered 1 log) (logged_at (length log + 1) item)
-
--- ---- rules
-
-pub log_append : (before xs ys : Items) → IsLogBehind before xs → IsLogBehind (before ++ xs) ys → IsLogBehind before (xs ++ ys)
-log_append before [] ys first more = subst (λ (l : Items). IsLogBehind l ys) (append-nil before) more
-log_append before (x ∷ xs) ys first more = (first.0, log_append (before ++ x ∷ []) xs ys first.1 (subst (λ (l : Items). IsLogBehind l ys) (sym (append_assoc before (x ∷ []) xs)) more))
-
--- a log stays one with a record that may stand behind it
-pub log_push : (log : Items) (epoch : Epoch) (body : Record) → IsLog log → MayStandBehind log epoch body → IsLog (log ++ (epoch, body) ∷ [])
-log_push log epoch body is may = log_append [] log ((epoch, body) ∷ []) is (may, tt)
-
--- ---- what records behind a log change
 
 -- the logical records among these
 abbrev pub items_in : List Physical → Items
@@ -84,7 +46,7 @@ after_items v lsn [] = sym (append-nil v.records)
 after_items v lsn (item ∷ items) = after_items (after_one v (Logical (record { 0 = lsn }) item.0 item.1)) (lsn + 1) items ∙ append_assoc v.records (item ∷ []) items
 
 -- records that may stand behind a log, at the next positions, go on with it
-pub goes_on_items : (v : Kept) (lsn : ℕ) (items : Items) → lsn ≡ length v.records + 1 → IsLogBehind v.records items → GoesOn v (placed lsn items)
+pub goes_on_items : (v : Kept) (lsn : ℕ) (items : Items) → lsn ≡ length v.records + 1 → IsLogAfter no_base v.records items → GoesOn v (placed lsn items)
 goes_on_items v lsn [] at may = tt
 goes_on_items v lsn (item ∷ items) at may =
     let next : Kept = after_one v (Logical (record { 0 = lsn }) item.0 item.1) in
@@ -93,7 +55,7 @@ goes_on_items v lsn (item ∷ items) at may =
 -- records that go on with a log keep it one
 pub goes_on_log : (v : Kept) (items : List Physical) → IsLog v.records → GoesOn v items → IsLog (after v items).records
 goes_on_log v [] is goes = is
-goes_on_log v (Logical lsn epoch body ∷ items) is goes = goes_on_log (after_one v (Logical lsn epoch body)) items (log_push v.records epoch body is goes.0.1) goes.1
+goes_on_log v (Logical lsn epoch body ∷ items) is goes = goes_on_log (after_one v (Logical lsn epoch body)) items (log_push no_base v.records epoch body is goes.0.1) goes.1
 goes_on_log v (Fence epoch ∷ items) is goes = goes_on_log (after_one v (Fence epoch)) items is goes.1
 goes_on_log v (TruncateTail lsn ∷ items) is goes = absurd goes.0
 goes_on_log v (CheckpointDone slot at len ∷ items) is goes = absurd goes.0

@@ -1,22 +1,11 @@
 -- The later of two epochs, and the epoch of a record that may follow.
 use Rattle.std.proofs.Common.{◌≡◌, inl, inr, Bool, true, false, sym, ap, ◌∙◌}
-use Rattle.std.specs.Prelude.{IsTrue, if◌then◌else◌}
-use Rattle.std.proofs.lemmas.Bool.{cases_Bool, and_parts}
+use Rattle.std.specs.Prelude.{if◌then◌else◌}
+use Rattle.std.proofs.lemmas.Bool.{cases_Bool}
 use Rattle.rc_base.specs.declared.ids.Epoch.{Epoch}
-use Rattle.log_records.specs.declared.record.Record.{Record}
-use Rattle.log_records.specs.declared.record.Record.TheVariants.{Begin, Operation, End, Barrier, EpochStart}
 use Rattle.log_store.specs.Epochs.{later}
-use Rattle.rc_base.specs.Ids.{epoch_lt, is_epoch}
-use Rattle.rc_base.proofs.EpochOrder.{epoch_lt_asym, epoch_lt_not_lt, epoch_not_lt_lt, epoch_same_not_lt, epoch_same_from_neither}
-use Rattle.log_store.specs.Log.{may_follow}
-
--- a record that may follow isn't of a lower epoch
-pub not_lower : (last e : Epoch) (body : Record) → IsTrue (may_follow last e body) → epoch_lt e last ≡ false
-not_lower last e (Begin txn) may = epoch_same_not_lt e last may
-not_lower last e (Operation txn prev op) may = epoch_same_not_lt e last may
-not_lower last e (End txn prev committed) may = epoch_same_not_lt e last may
-not_lower last e (Barrier stable) may = epoch_same_not_lt e last may
-not_lower last e (EpochStart named) may = epoch_lt_asym last e (and_parts (is_epoch named e) (epoch_lt last e) may).1
+use Rattle.rc_base.specs.Ids.{epoch_lt}
+use Rattle.rc_base.proofs.EpochOrder.{epoch_lt_asym, epoch_lt_not_lt, epoch_not_lt_lt, epoch_same_from_neither}
 
 pub later_is : (a b : Epoch) (t : Bool) → epoch_lt a b ≡ t → later a b ≡ (if t then b else a)
 later_is a b t is = ap (λ (u : Bool). if u then b else a) is

@@ -9,7 +9,7 @@ use Rattle.rc_base.specs.declared.ids.Epoch.{Epoch}
 use Rattle.log_records.specs.declared.record.Record.{Record}
 use Rattle.log_store.specs.declared.kept.Row.{Row}
 use Rattle.txn_table.specs.Commits.{fault_in}
-use Rattle.log_store.specs.Log.{Items, last_from, may_stand, known_in}
+use Rattle.txn_table.specs.Log.{Items, last_from, may_stand, known_in}
 use Rattle.log_store.specs.Fold.{items_of, is_in_place, first_wrong}
 
 pub items_of-append : (xs ys : List Row) → items_of (xs ++ ys) ≡ items_of xs ++ items_of ys
@@ -19,10 +19,6 @@ items_of-append (row ∷ xs) ys = ap (λ (l : List (Epoch × Record)). (row.epoc
 pub length-items_of : (rows : List Row) → length (items_of rows) ≡ length rows
 length-items_of [] = refl
 length-items_of (row ∷ rows) = omega (arith, length-items_of rows)
-
-pub last_from-push : (e : Epoch) (items : List (Epoch × Record)) (item : Epoch × Record) → last_from e (items ++ item ∷ []) ≡ item.0
-last_from-push e [] item = refl
-last_from-push e (first ∷ items) item = last_from-push first.0 items item
 
 -- the last row's epoch
 pub last_row : (e : Epoch) (rows : List Row) (d : Row) (i : ℕ) → i + 1 ≡ length rows → last_from e (items_of rows) ≡ (get_or rows i d).epoch

@@ -11,10 +11,10 @@ use Rattle.txn_table.specs.declared.error.TableError.{TableError}
 use Rattle.txn_table.specs.declared.error.TableError.TheVariants.{BadLink}
 use Rattle.txn_table.specs.Commits.{Logged, fault_in}
 use Rattle.txn_table.specs.Tables.{State, StandsFor, RefusesExactly}
+use Rattle.txn_table.specs.Log.{Items, may_stand, numbered}
+use Rattle.txn_table.proofs.LogGrowth.{logged_at, numbered-push}
 use Rattle.log_store.specs.declared.kept.Row.{Row}
-use Rattle.log_store.specs.Log.{Items, may_stand, numbered}
 use Rattle.log_store.specs.Fold.{is_in_place, first_wrong}
-use Rattle.log_store.proofs.Logs.{logged_at, numbered-push}
 
 -- ---- one row
 
@@ -64,7 +64,7 @@ module _ (rows : List Row) (i : ℕ) (table : State) (row : Row) (reached : IsRe
     size = omega (arith, length-append reached.before (item_of row ∷ []), reached.size);
     last = last;
     stands = subst (λ (rs : List Logged). StandsFor new [] rs)
-        (ap (λ (n : ℕ). numbered 1 reached.before ++ logged_at (n + 1) (item_of row) ∷ []) (sym reached.size) ∙ sym (numbered-push reached.before (item_of row)))
+        (ap (λ (n : ℕ). numbered 1 reached.before ++ logged_at (n + 1) (item_of row) ∷ []) (sym reached.size) ∙ sym (numbered-push 1 reached.before (item_of row)))
         (stands (numbered 1 reached.before) reached.stands);
     rest = first true is;
   }

@@ -10,7 +10,7 @@ use Rattle.log_store.specs.declared.fold.Standing.{Standing}
 use Rattle.log_store.specs.Epochs.{later}
 use Rattle.rc_base.specs.Ids.{no_epoch}
 use Rattle.txn_table.specs.Commits.{fault_in}
-use Rattle.log_store.specs.Log.{Items, last_epoch, may_follow, may_stand, known_in}
+use Rattle.txn_table.specs.Log.{Items, last_epoch, may_follow, may_stand, known_in}
 use Rattle.log_store.specs.Payload.{records_of}
 
 -- where an area is wrong: its number and the place of a block

@@ -2,15 +2,15 @@
 use Rattle.std.specs.Prelude.{◌≡◌, ℕ, ◌+◌, List, [], ◌∷◌, ◌++◌, length, Some}
 use Rattle.log_records.specs.declared.record.Physical.{Physical}
 use Rattle.log_records.specs.declared.record.Physical.TheVariants.{Logical, Fence, TruncateTail, CheckpointDone, Reset, Head}
+use Rattle.txn_table.specs.Log.{MayStandAfter, no_base}
 use Rattle.log_store.specs.declared.kept.Kept.{Kept}
 use Rattle.log_store.specs.Epochs.{later}
 use Rattle.rc_base.specs.Ids.{no_epoch}
-use Rattle.log_store.specs.Log.{MayStandBehind}
 
 -- A Fence may always come. A logical record has the next position, and may stand behind the records.
 abbrev pub MayCome : Kept → Physical → Type 0
 MayCome v (Fence epoch) = Unit {0}
-MayCome v (Logical lsn epoch body) = (lsn.0 ≡ length v.records + 1) × MayStandBehind v.records epoch body
+MayCome v (Logical lsn epoch body) = (lsn.0 ≡ length v.records + 1) × MayStandAfter no_base v.records epoch body
 MayCome v (TruncateTail lsn) = ⊥
 MayCome v (CheckpointDone slot at len) = ⊥
 MayCome v (Reset slot at len) = ⊥

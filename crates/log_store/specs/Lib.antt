@@ -4,6 +4,5 @@ pub mod Epochs
 pub mod Examples
 pub mod Fold
 pub mod Growth
-pub mod Log
 pub mod Payload
 pub mod Store

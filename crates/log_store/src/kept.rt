@@ -1,6 +1,6 @@
 ghost use Rattle.std.specs.Prelude.{◌≡◌, IfOk};
+ghost use Rattle.txn_table.specs.Log.{last_epoch};
 ghost use Rattle.log_store.specs.Fold.{items_of};
-ghost use Rattle.log_store.specs.Log.{last_epoch};
 
 use log_records::{Items, Record};
 use rc_base::{Epoch, NoMemory, Seq};

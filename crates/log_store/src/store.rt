@@ -5,13 +5,13 @@ ghost use Rattle.gated_log.specs.declared.error.LogError.TheVariants as log_erro
 ghost use Rattle.gated_log.specs.Blocks.{Keeps, open_blocks};
 ghost use Rattle.gated_log.specs.Log.{IsSettled, StaysElsewhere, placed_from};
 ghost use Rattle.barrier_group.specs.Group.{spelled};
+ghost use Rattle.txn_table.specs.Log.{IsLog};
 ghost use Rattle.log_store.specs.declared.error.RecoverError.TheVariants as errors;
 ghost use Rattle.log_store.specs.declared.kept.Kept.{Kept as KeptValue};
 ghost use Rattle.log_store.specs.Answers.{Finds};
 ghost use Rattle.log_store.specs.Durable as spec;
 ghost use Rattle.log_store.specs.Durable.{durable, durable_of, blocks_in, StandFor, StandForOneOf, KeepsSlots};
 ghost use Rattle.log_store.specs.Growth.{GoesOn, after, new_log};
-ghost use Rattle.log_store.specs.Log.{IsLog};
 ghost use Rattle.log_store.specs.Store.{IsOpenOn, IsTaken, kept_as, KeepsOrBegins, SlotsStay};
 
 use crate::durable::Durable;

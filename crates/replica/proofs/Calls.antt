@@ -27,12 +27,12 @@ use Rattle.log_records.specs.declared.record.Physical.TheVariants.{Logical}
 use Rattle.txn_table.specs.declared.committed.Committed.{Committed}
 use Rattle.txn_table.specs.declared.known.Known.{Known}
 use Rattle.txn_table.specs.Commits.{with_txn}
+use Rattle.txn_table.specs.Log.{Items, known_in, commits_in}
 use Rattle.txn_front.specs.Front as front
 use Rattle.txn_front.specs.Front.{Fronted, Going, IsOver, txn_at, going_of, operated, begun}
 use Rattle.log_store.specs.declared.kept.Kept.{Kept}
 use Rattle.log_store.specs.Epochs.{later}
 use Rattle.log_store.specs.Growth.{after_one, after, GoesOn}
-use Rattle.log_store.specs.Log.{Items, known_in, commits_in}
 use Rattle.replica.specs.declared.step.StepEvent.TheVariants as steps
 use Rattle.replica.specs.Open.{Open, IsKnownAs, IsPrimary, HasRole, AgreesWith}
 use Rattle.replica.specs.Step.{is_active, reply, logged_op, logged_commit, logged_abort, logged_call, logged_by, going_in, placed, behind, lengthened, noted, answered, called, committed_by}

@@ -4,7 +4,6 @@ use Rattle.std.specs.Option.{option_map}
 use Rattle.std.proofs.lemmas.List.{append-nil, length-append}
 use Rattle.std.proofs.lemmas.Bool.{false≢true}
 use Rattle.std.proofs.lemmas.Option.{none-some}
-use Rattle.log_store.proofs.Logs.{commits_in-push}
 use Rattle.rc_base.specs.declared.ids.Epoch.{Epoch}
 use Rattle.rc_base.specs.declared.ids.Lsn.{Lsn}
 use Rattle.rc_base.specs.declared.ids.TxnId.{TxnId}
@@ -17,8 +16,9 @@ use Rattle.txn_table.specs.declared.known.Known.{Known}
 use Rattle.txn_table.specs.Commits.{Logged, known, commits_behind, commit_in, one_or_none, with_txn, txn_lt, put}
 use Rattle.txn_table.specs.Tables.{followed, with_records}
 use Rattle.txn_table.proofs.Records.{begin_changes_none}
+use Rattle.txn_table.proofs.LogGrowth.{commits_from-push}
+use Rattle.txn_table.specs.Log.{Items, numbered, known_in, commits_in, no_base}
 use Rattle.log_store.specs.Epochs.{later}
-use Rattle.log_store.specs.Log.{Items, numbered, known_in, commits_in}
 use Rattle.replica.specs.Open.{stable_told, stable_in}
 
 -- the position behind a log
@@ -42,7 +42,7 @@ commits_more xs (y ∷ ys) =
     let rest = commits_more (xs ++ y ∷ []) ys in (
       one ++ rest.0,
       sym (append_assoc (commits_in xs) one rest.0)
-          ∙ ap (λ (cs : List Committed). cs ++ rest.0) (sym (commits_in-push xs (y.0, y.1)))
+          ∙ ap (λ (cs : List Committed). cs ++ rest.0) (sym (commits_from-push no_base xs (y.0, y.1)))
           ∙ rest.1
           ∙ ap commits_in (append_assoc xs (y ∷ []) ys),
     )

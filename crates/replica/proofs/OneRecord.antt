@@ -26,17 +26,16 @@ use Rattle.txn_table.specs.declared.known.Known.{Known}
 use Rattle.txn_table.specs.Commits.{with_txn, fault_in, link_fault, begin_fault, commit_in, commit_of, one_or_none, is_pending, last_of, last_from, last_position, ops_of}
 use Rattle.txn_table.specs.Tables.{followed, with_records}
 use Rattle.txn_table.proofs.Records.{barrier_changes_none, operation_of_own, operation_of_other, end_of_other, none_if_open}
+use Rattle.txn_table.specs.Log.{Items, may_follow, may_stand, last_epoch, known_in, commits_in, no_base}
+use Rattle.txn_table.proofs.LogGrowth.{last_from-push, known_from-push, commits_from-push}
 use Rattle.txn_front.specs.Front.{Fronted, Going, IsOver, txn_at, numbered, going_of}
 use Rattle.log_store.specs.declared.kept.Kept.{Kept}
 use Rattle.log_store.specs.Epochs.{later}
 use Rattle.log_store.specs.Growth.{MayCome, after_one}
-use Rattle.log_store.specs.Log.{Items, may_follow, may_stand, last_epoch, known_in, commits_in}
 use Rattle.replica.specs.declared.role.Role.{Role}
 use Rattle.replica.specs.declared.role.Role.TheVariants.{Other, Primary}
 use Rattle.replica.specs.Open.{Open, stable_told, commits_to, state_of, IsKnownAs, IsPrimary, HasRole, AgreesWith}
 use Rattle.replica.specs.Step.{is_active, behind, lengthened, started}
-use Rattle.log_store.proofs.Rows.{last_from-push}
-use Rattle.log_store.proofs.Logs.{known_in-push, commits_in-push}
 use Rattle.replica.proofs.OneMore.{next, stable_push, known_is, with_map, with_begin, known_before, known_or_new, fresh, others_stay}
 use Rattle.lock_laws.proofs.ProtectedStates.{IsOrdered-folded}
 use Rattle.txn_front.proofs.Fronts.{IsOver-nothing}
@@ -141,10 +140,10 @@ grow r v body cs shown contents front a on g shown_is contents_is stays =
     let log : Items = v.records ++ (r.epoch, body) ∷ [] in
     let all : commits_to r.stable.0 v.records ≡ commits_in v.records = whole r.stable.0 v.records (omega (arith, a.last, ap (λ (l : Lsn). l.0) primary.1.stable)) in
     let size : length log ≡ r.last.0 + 1 = length-append v.records ((r.epoch, body) ∷ []) ∙ ap (λ (n : ℕ). n + 1) a.last in
-    let commits : commits_in log ≡ commits_in v.records ++ cs = commits_in-push v.records (r.epoch, body) ∙ ap (λ (ds : List Committed). commits_in v.records ++ ds) g.commits in
+    let commits : commits_in log ≡ commits_in v.records ++ cs = commits_from-push no_base v.records (r.epoch, body) ∙ ap (λ (ds : List Committed). commits_in v.records ++ ds) g.commits in
     let here : commits_to (r.last.0 + 1) log ≡ commits_in v.records ++ cs = whole (r.last.0 + 1) log (omega (arith, size)) ∙ commits in
     let all_known : (txn : TxnId) (k : Known) → with_txn txn (known_in log) ≡ Some k → ((txn.epoch ≡ r.epoch) × (txn.n ≤ r.front.begins)) ⊎ ((before : Known) × (with_txn txn (known_in v.records) ≡ Some before))
-    = λ txn k h. g.known txn k (ap (with_txn txn) (sym (known_in-push v.records (r.epoch, body))) ∙ h) in
+    = λ txn k h. g.known txn k (ap (with_txn txn) (sym (known_from-push no_base v.records (r.epoch, body))) ∙ h) in
     record {
       may = (
         ap (λ (n : ℕ). n + 1) (sym a.last),
@@ -236,7 +235,7 @@ begin_grows r v t going front a on is zero puts over =
     let log : Items = v.records ++ (r.epoch, Begin t) ∷ [] in
     let at : next v.records ≡ behind r.last 1 = ap (λ (n : ℕ). record { 0 = n + 1 }) a.last in
     let each : (u : TxnId) → with_txn u (known_in log) ≡ cond (is_txn t u) (Some (fresh (next v.records) t)) (with_txn u ks)
-    = λ u. ap (with_txn u) (known_in-push v.records (r.epoch, Begin t)) ∙ with_begin (next v.records) t u ks none.0 in
+    = λ u. ap (with_txn u) (known_from-push no_base v.records (r.epoch, Begin t)) ∙ with_begin (next v.records) t u ks none.0 in
     let known : with_txn t (known_in log) ≡ Some (fresh (next v.records) t) =
     each t ∙ ap (λ (b : Bool). cond b (Some (fresh (next v.records) t)) (with_txn t ks)) (is_txn_same t) in
     let others : OthersStay t v.records log = λ u away. each u ∙ ap (λ (b : Bool). cond b (Some (fresh (next v.records) t)) (with_txn u ks)) away in
@@ -286,7 +285,7 @@ no_fault t going log b =
 no_begin : (log : Items) (epoch : Epoch) (body : Record) (t : TxnId) → ((ks : List Known) → with_records ks ((next log, body) ∷ []) ≡ map (followed ((next log, body) ∷ [])) ks)
     → ((k : Known) → is_txn t k.txn ≡ false → followed ((next log, body) ∷ []) k ≡ k) → OthersStay t log (log ++ (epoch, body) ∷ [])
 no_begin log epoch body t maps stay u away =
-    ap (with_txn u) (known_in-push log (epoch, body) ∙ maps (known_in log)) ∙ others_stay ((next log, body) ∷ []) t u (known_in log) stay away
+    ap (with_txn u) (known_from-push no_base log (epoch, body) ∙ maps (known_in log)) ∙ others_stay ((next log, body) ∷ []) t u (known_in log) stay away
 
 -- an operation behind its last record
 abbrev pub operated_at : Lsn → Op → Going → Going
@@ -304,7 +303,7 @@ operation_grows r v t going op lsn front a on is some here puts over =
     let at : place ≡ lsn = ap (λ (n : ℕ). record { 0 = n + 1 }) a.last ∙ here in
     let k : Known = record { txn = b.known.txn; begin = b.known.begin; ops = b.known.ops ++ (place, op) ∷ []; ending = b.known.ending } in
     let known : with_txn t (known_in log) ≡ Some k =
-    ap (with_txn t) (known_in-push v.records (r.epoch, body)) ∙ with_map ((place, body) ∷ []) t ks ∙ ap (option_map (followed ((place, body) ∷ []))) b.is
+    ap (with_txn t) (known_from-push no_base v.records (r.epoch, body)) ∙ with_map ((place, body) ∷ []) t ks ∙ ap (option_map (followed ((place, body) ∷ []))) b.is
     ∙ ap (λ (x : Known). Some x) (operation_of_own place going.last t op b.known (own t going v.records b)) in
     let last : last_of k ≡ lsn =
     ap (λ (e : Option Ending). last_from e (last_position b.known.begin (b.known.ops ++ (place, op) ∷ []))) (none_if_open b.known.ending b.pending) ∙ last_position_push b.known.begin b.known.ops place op ∙ at in
@@ -371,7 +370,7 @@ barrier_grows r v a on =
     let ks : List Known = known_in v.records in
     let body : Record = Barrier r.stable in
     let log : Items = v.records ++ (r.epoch, body) ∷ [] in
-    let same : known_in log ≡ ks = known_in-push v.records (r.epoch, body) ∙ barrier_changes_none (next v.records) r.stable ks in
+    let same : known_in log ≡ ks = known_from-push no_base v.records (r.epoch, body) ∙ barrier_changes_none (next v.records) r.stable ks in
     grow r v body [] r.shown r.contents r.front a on
     (record {
       follows = is_epoch_same r.epoch;
@@ -405,10 +404,10 @@ epoch_starts r v epoch a up =
     let body : Record = EpochStart epoch in
     let log : Items = v.records ++ (epoch, body) ∷ [] in
     let size : length log ≡ r.last.0 + 1 = length-append v.records ((epoch, body) ∷ []) ∙ ap (λ (n : ℕ). n + 1) a.last in
-    let commits : commits_in log ≡ commits_in v.records = commits_in-push v.records (epoch, body) ∙ append-nil (commits_in v.records) in
+    let commits : commits_in log ≡ commits_in v.records = commits_from-push no_base v.records (epoch, body) ∙ append-nil (commits_in v.records) in
     let here : commits_to (r.last.0 + 1) log ≡ commits_to r.stable.0 v.records ++ r.ahead = whole (r.last.0 + 1) log (omega (arith, size)) ∙ commits ∙ a.commits in
     let old : (txn : TxnId) (k : Known) → with_txn txn (known_in log) ≡ Some k → epoch_le txn.epoch r.epoch ≡ true
-    = λ txn k h. let before = known_before ((next v.records, body) ∷ []) txn (known_in v.records) k (ap (with_txn txn) (sym (known_in-push v.records (epoch, body))) ∙ h) in a.epochs txn before.0 before.1 in
+    = λ txn k h. let before = known_before ((next v.records, body) ∷ []) txn (known_in v.records) k (ap (with_txn txn) (sym (known_from-push no_base v.records (epoch, body))) ∙ h) in a.epochs txn before.0 before.1 in
     record {
       may = (
         ap (λ (n : ℕ). n + 1) (sym a.last),

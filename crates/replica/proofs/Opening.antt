@@ -17,7 +17,8 @@ use Rattle.txn_table.specs.declared.committed.Committed.{Committed}
 use Rattle.txn_table.specs.declared.known.Known.{Known}
 use Rattle.txn_table.specs.Commits.{with_txn, fault_in, begin_fault, last_of, commit_in, one_or_none, nowhere}
 use Rattle.txn_table.specs.Tables.{followed, with_records}
-use Rattle.log_store.specs.Log.{Items, last_from, last_epoch, known_in, commits_in, MayStandBehind, IsLogBehind, IsLog}
+use Rattle.txn_table.specs.Log.{Items, last_from, last_epoch, known_in, commits_in, MayStandAfter, IsLogAfter, IsLog, no_base}
+use Rattle.txn_table.proofs.LogGrowth.{last_from-push, known_from-push, commits_from-push}
 use Rattle.replica.specs.declared.mounting.Shown.{Shown}
 use Rattle.log_store.specs.declared.durable.Durable.{Durable}
 use Rattle.log_store.specs.Store.{Store, kept_as}
@@ -28,8 +29,6 @@ use Rattle.txn_front.proofs.Fronts.{IsOver-nothing}
 use Rattle.replica.specs.declared.role.Role.TheVariants.{Other}
 use Rattle.replica.specs.Open.{Open, stable_told, stable_in, commits_to, state_of, AgreesWith}
 use Rattle.replica.specs.Reading.{IsRead, with_commit}
-use Rattle.log_store.proofs.Rows.{last_from-push}
-use Rattle.log_store.proofs.Logs.{known_in-push, commits_in-push}
 use Rattle.replica.proofs.OneMore.{next, commits_few, known_before, known_or_new}
 use Rattle.rc_base.proofs.EpochOrder.{epoch_le_same, epoch_le_trans, epoch_lt_le}
 use Rattle.replica.proofs.OneRecord.{whole, state_more}
@@ -42,11 +41,11 @@ last_item e (x ∷ y ∷ log) d (suc i) is = last_item x.0 (y ∷ log) d i (omeg
 
 -- ---- each record may stand behind those before it
 
-stands_behind : (before log : Items) (i : ℕ) (d : Epoch × Record) → IsLogBehind before log → i < length log → MayStandBehind (before ++ take i log) (get_or log i d).0 (get_or log i d).1
+stands_behind : (before log : Items) (i : ℕ) (d : Epoch × Record) → IsLogAfter no_base before log → i < length log → MayStandAfter no_base (before ++ take i log) (get_or log i d).0 (get_or log i d).1
 stands_behind before [] i d h lt = absurd (omega arith)
-stands_behind before (x ∷ log) zero d h lt = subst (λ (l : Items). MayStandBehind l x.0 x.1) (sym (append-nil before)) h.0
+stands_behind before (x ∷ log) zero d h lt = subst (λ (l : Items). MayStandAfter no_base l x.0 x.1) (sym (append-nil before)) h.0
 stands_behind before (x ∷ log) (suc i) d h lt =
-    subst (λ (l : Items). MayStandBehind l (get_or log i d).0 (get_or log i d).1) (append_assoc before (x ∷ []) (take i log))
+    subst (λ (l : Items). MayStandAfter no_base l (get_or log i d).0 (get_or log i d).1) (append_assoc before (x ∷ []) (take i log))
     (stands_behind (before ++ x ∷ []) log i d h.1 (omega arith))
 
 pub linked_at : (log : Items) (i : ℕ) (d : Epoch × Record) → IsLog log → i < length log → fault_in (known_in (take i log)) (get_or log i d).1 ≡ None
@@ -67,14 +66,14 @@ read_above shown log epoch body r lt None is =
     record {
       count = r.count ∙ ap length (sym same);
       contents = r.contents ∙ ap state_of (sym same);
-      commits = commits_in-push log (epoch, body) ∙ ap (λ (o : Option Committed). commits_in log ++ one_or_none o) is ∙ append-nil (commits_in log) ∙ r.commits ∙ ap (λ (cs : List Committed). cs ++ shown.ahead) (sym same);
+      commits = commits_from-push no_base log (epoch, body) ∙ ap (λ (o : Option Committed). commits_in log ++ one_or_none o) is ∙ append-nil (commits_in log) ∙ r.commits ∙ ap (λ (cs : List Committed). cs ++ shown.ahead) (sym same);
     }
 read_above shown log epoch body r lt (Some c) is =
     let same = same_front shown.stable.0 log (epoch, body) lt in
     let further : IsRead (record shown { ahead = shown.ahead ++ c ∷ [] }) (log ++ (epoch, body) ∷ []) = record {
       count = r.count ∙ ap length (sym same);
       contents = r.contents ∙ ap state_of (sym same);
-      commits = commits_in-push log (epoch, body) ∙ ap (λ (o : Option Committed). commits_in log ++ one_or_none o) is ∙ ap (λ (cs : List Committed). cs ++ c ∷ []) r.commits
+      commits = commits_from-push no_base log (epoch, body) ∙ ap (λ (o : Option Committed). commits_in log ++ one_or_none o) is ∙ ap (λ (cs : List Committed). cs ++ c ∷ []) r.commits
           ∙ append_assoc (commits_to shown.stable.0 log) shown.ahead (c ∷ []) ∙ ap (λ (cs : List Committed). cs ++ (shown.ahead ++ c ∷ [])) (sym same);
     } in
     subst (λ (b : Bool). IsRead (cond b (record shown { ahead = shown.ahead ++ c ∷ [] }) (record shown { count = shown.count + 1; contents = folded shown.contents c.ops })) (log ++ (epoch, body) ∷ [])) (sym (lt-ltb shown.stable.0 (length log + 1) lt)) further
@@ -84,7 +83,7 @@ read_below : (shown : Shown) (log : Items) (epoch : Epoch) (body : Record) → I
 read_below shown log epoch body r le o is =
     let all : commits_to shown.stable.0 log ≡ commits_in log = whole shown.stable.0 log (omega arith) in
     let none : shown.ahead ≡ [] = append_cancel_left (commits_in log) shown.ahead [] (ap (λ (cs : List Committed). cs ++ shown.ahead) (sym all) ∙ sym r.commits ∙ sym (append-nil (commits_in log))) in
-    let more : commits_in (log ++ (epoch, body) ∷ []) ≡ commits_in log ++ one_or_none o = commits_in-push log (epoch, body) ∙ ap (λ (o : Option Committed). commits_in log ++ one_or_none o) is in
+    let more : commits_in (log ++ (epoch, body) ∷ []) ≡ commits_in log ++ one_or_none o = commits_from-push no_base log (epoch, body) ∙ ap (λ (o : Option Committed). commits_in log ++ one_or_none o) is in
     let here : commits_to shown.stable.0 (log ++ (epoch, body) ∷ []) ≡ commits_in log ++ one_or_none o = whole shown.stable.0 (log ++ (epoch, body) ∷ []) (omega (arith, length-append log ((epoch, body) ∷ []))) ∙ more in
     by o here more (r.count ∙ ap length all) (r.contents ∙ ap state_of all) none
   where
@@ -125,7 +124,7 @@ pub known_more : (log : Items) (i : ℕ) (d : Epoch × Record) (lsn : Lsn) (ks :
 known_more log i d lsn ks lt at is =
     let x : Epoch × Record = get_or log i d in
     let place : lsn ≡ next (take i log) = ap (λ (n : ℕ). let l : Lsn = record { 0 = n } in l) (let e : lsn.0 ≡ length (take i log) + 1 = omega (arith, at, size_at log i lt) in e) in
-    ap₂ (λ (ys : List Known) (l : Lsn). with_records ys ((l, x.1) ∷ [])) is place ∙ sym (known_in-push (take i log) (x.0, x.1)) ∙ ap known_in (sym (take_more log i d lt))
+    ap₂ (λ (ys : List Known) (l : Lsn). with_records ys ((l, x.1) ∷ [])) is place ∙ sym (known_from-push no_base (take i log) (x.0, x.1)) ∙ ap known_in (sym (take_more log i d lt))
 
 -- with_commit leaves the stable position
 pub stable_stays : (lsn : ℕ) (o : Option Committed) (shown : Shown) → (with_commit lsn o shown).stable ≡ shown.stable
@@ -137,14 +136,14 @@ stable_stays lsn (Some c) shown = elim (nat_lt shown.stable.0 lsn) as (λ b. (co
 below_from : (n m : ℕ) → IsTrue (nat_lt n m) → n < m
 below_from n m h = grind (arith, nat_tests)
 
-told_below : (log : Items) (epoch : Epoch) (body : Record) → MayStandBehind log epoch body → stable_told body ≤ length log
+told_below : (log : Items) (epoch : Epoch) (body : Record) → MayStandAfter no_base log epoch body → stable_told body ≤ length log
 told_below log epoch (Begin txn) h = omega arith
 told_below log epoch (Operation txn prev op) h = omega arith
 told_below log epoch (End txn prev committed) h = omega arith
 told_below log epoch (Barrier stable) h = omega (arith, below_from stable.0 (length log + 1) h.stands)
 told_below log epoch (EpochStart named) h = omega arith
 
-stable_behind : (before log : Items) → IsLogBehind before log → stable_in log ≤ length before + length log
+stable_behind : (before log : Items) → IsLogAfter no_base before log → stable_in log ≤ length before + length log
 stable_behind before [] h = omega arith
 stable_behind before (x ∷ log) h = omega (arith, told_below before x.0 x.1 h.0, stable_behind (before ++ x ∷ []) log h.1, length-append before (x ∷ []))
 
@@ -164,20 +163,20 @@ no_fault (Some k) h = absurd (none-some (nowhere, last_of k) (sym h))
 -- a record that isn't a Begin
 others_push : (log : Items) (epoch : Epoch) (body : Record) → ((ks : List Known) → with_records ks ((next log, body) ∷ []) ≡ map (followed ((next log, body) ∷ [])) ks) → epoch_le (last_epoch log) epoch ≡ true → EpochsTo log → EpochsTo (log ++ (epoch, body) ∷ [])
 others_push log epoch body maps up e txn known h =
-    let before = known_before ((next log, body) ∷ []) txn (known_in log) known (ap (with_txn txn) (sym (maps (known_in log)) ∙ sym (known_in-push log (epoch, body))) ∙ h) in
+    let before = known_before ((next log, body) ∷ []) txn (known_in log) known (ap (with_txn txn) (sym (maps (known_in log)) ∙ sym (known_from-push no_base log (epoch, body))) ∙ h) in
     subst (λ (l : Epoch). epoch_le txn.epoch l ≡ true) (sym (last_from-push _ log (epoch, body))) (epoch_le_trans txn.epoch (last_epoch log) epoch (e txn before.0 before.1) up)
 
-begin_push : (log : Items) (epoch : Epoch) (new : TxnId) → MayStandBehind log epoch (Begin new) → EpochsTo log → EpochsTo (log ++ (epoch, Begin new) ∷ [])
+begin_push : (log : Items) (epoch : Epoch) (new : TxnId) → MayStandAfter no_base log epoch (Begin new) → EpochsTo log → EpochsTo (log ++ (epoch, Begin new) ∷ [])
 begin_push log epoch new h e txn known k =
     let none : with_txn new (known_in log) ≡ None = no_fault (with_txn new (known_in log)) h.linked in
     let same : epoch ≡ last_epoch log = is_epoch-true epoch (last_epoch log) h.follows in
     subst (λ (l : Epoch). epoch_le txn.epoch l ≡ true) (sym (last_from-push _ log (epoch, Begin new)))
-    (elim (known_or_new (next log) new txn (known_in log) known none (ap (with_txn txn) (sym (known_in-push log (epoch, Begin new))) ∙ k)) [
+    (elim (known_or_new (next log) new txn (known_in log) known none (ap (with_txn txn) (sym (known_from-push no_base log (epoch, Begin new))) ∙ k)) [
       | inl own ↦ epoch_le_same txn.epoch epoch (ap (λ (t : TxnId). t.epoch) (sym (is_txn-true new txn own)) ∙ is_epoch-true new.epoch epoch h.stands)
       | inr old ↦ subst (λ (l : Epoch). epoch_le txn.epoch l ≡ true) (sym same) (e txn old.0 old.1)
     ])
 
-epochs_push : (log : Items) (epoch : Epoch) (body : Record) → MayStandBehind log epoch body → EpochsTo log → EpochsTo (log ++ (epoch, body) ∷ [])
+epochs_push : (log : Items) (epoch : Epoch) (body : Record) → MayStandAfter no_base log epoch body → EpochsTo log → EpochsTo (log ++ (epoch, body) ∷ [])
 epochs_push log epoch (Begin txn) h e = begin_push log epoch txn h e
 epochs_push log epoch (Operation txn prev op) h e = others_push log epoch (Operation txn prev op) (λ ks. refl) (epoch_le_same (last_epoch log) epoch (sym (is_epoch-true epoch (last_epoch log) h.follows))) e
 epochs_push log epoch (End txn prev committed) h e = others_push log epoch (End txn prev committed) (λ ks. refl) (epoch_le_same (last_epoch log) epoch (sym (is_epoch-true epoch (last_epoch log) h.follows))) e
@@ -186,7 +185,7 @@ epochs_push log epoch (EpochStart named) h e =
     let parts = and_parts (is_epoch named epoch) (epoch_lt (last_epoch log) epoch) h.follows in
     others_push log epoch (EpochStart named) (λ ks. refl) (epoch_lt_le (last_epoch log) epoch parts.1) e
 
-epochs_behind : (before log : Items) → IsLogBehind before log → EpochsTo before → EpochsTo (before ++ log)
+epochs_behind : (before log : Items) → IsLogAfter no_base before log → EpochsTo before → EpochsTo (before ++ log)
 epochs_behind before [] h e = subst EpochsTo (sym (append-nil before)) e
 epochs_behind before (x ∷ log) h e = subst EpochsTo (append_assoc before (x ∷ []) log) (epochs_behind (before ++ x ∷ []) log h.1 (epochs_push before x.0 x.1 h.0 e))
 

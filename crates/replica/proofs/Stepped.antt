@@ -5,6 +5,7 @@ use Rattle.std.specs.Option.{option_map_or}
 use Rattle.rc_base.specs.declared.ids.Lsn.{Lsn}
 use Rattle.rc_base.specs.declared.ids.TxnId.{TxnId}
 use Rattle.rc_base.specs.Ids.{epoch_lt, no_epoch}
+use Rattle.txn_table.specs.Log.{Items}
 use Rattle.log_store.specs.Epochs.{later}
 use Rattle.coll_model.specs.Effect.{State, folded}
 use Rattle.events.specs.declared.call.Call.{Call}
@@ -16,7 +17,6 @@ use Rattle.txn_front.specs.Front as front
 use Rattle.txn_front.specs.Front.{Fronted, Going, AreAlike, going_of}
 use Rattle.log_store.specs.declared.kept.Kept.{Kept}
 use Rattle.log_store.specs.Store.{Store}
-use Rattle.log_store.specs.Log.{Items}
 use Rattle.replica.specs.declared.role.Role.{Role}
 use Rattle.replica.specs.declared.role.Role.TheVariants.{Other, Primary}
 use Rattle.replica.specs.declared.step.StepEvent.{StepEvent}

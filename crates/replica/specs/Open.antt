@@ -10,9 +10,9 @@ use Rattle.log_records.specs.declared.record.Record.TheVariants.{Begin, Operatio
 use Rattle.txn_table.specs.declared.committed.Committed.{Committed}
 use Rattle.txn_table.specs.declared.known.Known.{Known}
 use Rattle.txn_table.specs.Commits.{with_txn, is_pending, last_of}
+use Rattle.txn_table.specs.Log.{Items, last_epoch, known_in, commits_in}
 use Rattle.log_store.specs.declared.kept.Kept.{Kept}
 use Rattle.log_store.specs.Store.{Store}
-use Rattle.log_store.specs.Log.{Items, last_epoch, known_in, commits_in}
 use Rattle.txn_front.specs.Front.{Fronted, Going, AreAlike, IsOver, numbered, txn_at}
 use Rattle.replica.specs.declared.role.Role.{Role}
 use Rattle.replica.specs.declared.role.Role.TheVariants.{Other, Primary}

@@ -2,7 +2,7 @@
 use Rattle.std.specs.Prelude.{◌≡◌, ℕ, ◌+◌, nat_lt, ◌∷◌, [], ◌++◌, length, Option, Some, None, if◌then◌else◌}
 use Rattle.coll_model.specs.Effect.{folded}
 use Rattle.txn_table.specs.declared.committed.Committed.{Committed}
-use Rattle.log_store.specs.Log.{Items, commits_in}
+use Rattle.txn_table.specs.Log.{Items, commits_in}
 use Rattle.replica.specs.declared.mounting.Shown.{Shown}
 use Rattle.replica.specs.Open.{commits_to, state_of}
 

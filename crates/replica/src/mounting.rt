@@ -1,9 +1,9 @@
 // What a replica shows once its log was opened.
 ghost use Rattle.std.specs.Prelude.{◌≡◌, ◌<◌, ◌∷◌, [], None, IfOk, OnOk};
-ghost use Rattle.log_store.specs.Log as logs;
-ghost use Rattle.log_store.specs.Log.{IsLog};
 ghost use Rattle.txn_table.specs.Commits.{fault_in, commit_in};
 ghost use Rattle.txn_table.specs.Tables.{with_records};
+ghost use Rattle.txn_table.specs.Log as logs;
+ghost use Rattle.txn_table.specs.Log.{IsLog};
 ghost use Rattle.replica.specs.Open as spec;
 ghost use Rattle.replica.specs.Reading.{IsRead, with_commit};
 

@@ -4,3 +4,5 @@ pub mod Sorting
 pub mod Records
 pub mod Logs
 pub mod Writes
+pub mod LogGrowth
+pub mod HeldOrders

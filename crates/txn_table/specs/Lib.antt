@@ -1,2 +1,4 @@
 pub mod Commits
+pub mod Held
+pub mod Log
 pub mod Tables

@@ -2,12 +2,14 @@
 //! operations. A record whose link is wrong is refused.
 #![tactic(auto)]
 
+mod base;
 mod committed;
 mod error;
 mod known;
 mod steps;
 mod table;
 
+pub use base::Base;
 pub use committed::Committed;
 pub use error::TableError;
 pub use known::{Ending, Known};

@@ -1,4 +1,4 @@
-ghost use Rattle.std.specs.Prelude.{◌≡◌, ◌<◌, ◌≤◌, length, IfOk, OnOk};
+ghost use Rattle.std.specs.Prelude.{◌≤◌, IfOk};
 ghost use Rattle.std.specs.List.{AllByRecursion};
 ghost use Rattle.txn_table.specs.Tables.{IsBelow, RiseByTxn};
 
@@ -7,10 +7,12 @@ use coll_model::Op;
 use log_records::{LoggedOps, Pending, PendingTxn, Record};
 use rc_base::{Epoch, Lsn, Name, TxnId};
 use std::alloc::Global;
+use std::marker::Model;
+use std::process::Abort;
 use std::test::*;
 
-/// A record of a log: transaction n of epoch 0.1 begins, operates on the collection with this name of one letter, or
-/// ends; a Barrier; an epoch. The second number is the position of the transaction's record before.
+// A record of a log: transaction n of epoch 0.1 begins, operates on the collection with this name of one letter, or
+// ends; a Barrier; an epoch. The second number is the position of the transaction's record before.
 #[derive(Clone, Copy)]
 enum Step {
     Begin(u64),
@@ -20,37 +22,52 @@ enum Step {
     Epoch,
 }
 
+// What is done with a table, each at a position.
+#[derive(Clone, Copy)]
+enum Row {
+    // A record is taken, and this commits with it: the digit of a transaction and the letters of its operations.
+    Take(u64, Step, &'static str),
+    // A record is refused: the position that it names, and the one that it should.
+    Refuse(u64, Step, u64, u64),
+    // What stands above it is taken back.
+    Cut(u64),
+    // The floor is raised to it.
+    Forget(u64),
+    // What is pending at it.
+    Pending(u64, &'static str),
+}
+
 // Transactions 1 and 2 take turns, and 2 commits first. Then 3 aborts.
-const TURNS: [Step; 11] = [
-    Step::Begin(1),
-    Step::Begin(2),
-    Step::Act(1, 1, b'a'),
-    Step::Act(2, 2, b'b'),
-    Step::Act(1, 3, b'c'),
-    Step::End(2, 4, true),
-    Step::Hold,
-    Step::End(1, 5, true),
-    Step::Begin(3),
-    Step::Act(3, 9, b'd'),
-    Step::End(3, 10, false),
+const TURNS: [Row; 11] = [
+    Row::Take(1, Step::Begin(1), ""),
+    Row::Take(2, Step::Begin(2), ""),
+    Row::Take(3, Step::Act(1, 1, b'a'), ""),
+    Row::Take(4, Step::Act(2, 2, b'b'), ""),
+    Row::Take(5, Step::Act(1, 3, b'c'), ""),
+    Row::Take(6, Step::End(2, 4, true), "2b"),
+    Row::Take(7, Step::Hold, ""),
+    Row::Take(8, Step::End(1, 5, true), "1ac"),
+    Row::Take(9, Step::Begin(3), ""),
+    Row::Take(10, Step::Act(3, 9, b'd'), ""),
+    Row::Take(11, Step::End(3, 10, false), ""),
 ];
 
 // Transaction 2 begins before 1 and commits; an epoch ends 1.
-const EPOCH: [Step; 6] = [
-    Step::Begin(2),
-    Step::Act(2, 1, b'a'),
-    Step::Begin(1),
-    Step::Act(1, 3, b'b'),
-    Step::End(2, 2, true),
-    Step::Epoch,
+const EPOCH: &[Row] = &[
+    Row::Take(1, Step::Begin(2), ""),
+    Row::Take(2, Step::Act(2, 1, b'a'), ""),
+    Row::Take(3, Step::Begin(1), ""),
+    Row::Take(4, Step::Act(1, 3, b'b'), ""),
+    Row::Take(5, Step::End(2, 2, true), "2a"),
+    Row::Take(6, Step::Epoch, ""),
 ];
 
 // Transaction 1 is pending, and 2 has ended.
-const LINKS: [Step; 4] = [
-    Step::Begin(1),
-    Step::Act(1, 1, b'a'),
-    Step::Begin(2),
-    Step::End(2, 3, false),
+const LINKS: &[Row] = &[
+    Row::Take(1, Step::Begin(1), ""),
+    Row::Take(2, Step::Act(1, 1, b'a'), ""),
+    Row::Take(3, Step::Begin(2), ""),
+    Row::Take(4, Step::End(2, 3, false), ""),
 ];
 
 fn txn(n: u64) -> TxnId {
@@ -97,67 +114,131 @@ fn digit(txn: TxnId) -> u8 {
     if txn.n == 1 { b'1' } else { b'2' }
 }
 
-// Writes a transaction's digit and its operations' letters.
-fn tell(told: &mut Vec<u8>, commit: &Committed) -> Result<(), Fail> {
-    told.push(digit(commit.txn))?;
-    for op in commit.ops.as_slice() {
-        told.push(letter(op))?;
+// The digit of a transaction that commits, and the letters of its operations.
+fn commit_text(alloc: Global, commit: &Option<Committed>) -> Result<Vec<u8>, Fail> {
+    let mut text = Vec::new(alloc);
+    if let Some(commit) = commit {
+        text.push(digit(commit.txn))?;
+        for op in commit.ops.as_slice() {
+            text.push(letter(op))?;
+        }
     }
-    Ok(())
+    Ok(text)
 }
 
-// Takes a record, and tells what commits.
-fn take(
-    alloc: Global,
-    table: &mut Table,
-    lsn: u64,
-    step: Step,
-    told: &mut Vec<u8>,
-) -> Result<(), Fail>
-    requires { table.old.last.0 < lsn }
-    ensures last { OnOk result (table.new.last.0 ≡ lsn) }
-    ensures floor { OnOk result (table.new.floor ≡ table.old.floor) }
-{
-    let body = record(alloc, step)?;
-    if let Some(commit) = table.take(Lsn(lsn), &body)? {
-        tell(told, &commit)?;
+// Those of the transactions that are pending.
+fn pending_text(alloc: Global, pending: &Pending) -> Result<Vec<u8>, Fail> {
+    let mut text = Vec::new(alloc);
+    for open in pending.as_slice() {
+        text.push(digit(open.txn))?;
+        for logged in open.ops.as_slice() {
+            text.push(letter(&logged.1))?;
+        }
     }
-    Ok(())
+    Ok(text)
 }
 
-// Takes the records of the log behind a position.
-fn feed(
-    alloc: Global,
-    table: &mut Table,
-    from: usize,
-    log: &[Step],
-    told: &mut Vec<u8>,
-) -> Result<(), Fail>
-    requires { table.old.last.0 ≤ from }
-    ensures last { OnOk result (from < length log.now → table.new.last.0 ≡ length log.now) }
-    ensures floor { OnOk result (table.new.floor ≡ table.old.floor) }
-{
-    for at in from..log.len() {
-        take(alloc, table, at as u64 + 1, log[at], told)?;
+// A table, and the positions of its floor and of the last record that it took.
+#[derive(Drop)]
+struct Played {
+    table: Table,
+    floor: u64,
+    last: u64,
+}
+
+impl Model for Played {
+    ghost use Rattle.std.specs.Prelude.{◌≡◌};
+    ghost use Rattle.txn_table.specs.Tables.{State};
+
+    ghost Value = { State };
+
+    ghost view = { λ p. p.table };
+
+    ghost invariant = { λ p. (p.table.floor.0 ≡ p.floor) × (p.table.last.0 ≡ p.last) };
+}
+
+impl Played {
+    // Of an empty log.
+    fn empty(alloc: Global) -> Result<Played, Fail> {
+        Ok(Played {
+            table: Table::new(alloc, Lsn(0), &Pending::new(alloc))?,
+            floor: 0,
+            last: 0,
+        })
     }
-    Ok(())
-}
 
-// A table of an empty log.
-fn empty(alloc: Global) -> Result<Table, Fail>
-    ensures last { IfOk result (λ t. t.last.0 ≡ 0) }
-    ensures floor { IfOk result (λ t. t.floor.0 ≡ 0) }
-{
-    Ok(Table::new(alloc, Lsn(0), &Pending::new(alloc))?)
-}
+    // Of a log whose base, at position 5, has a transaction that began at 3.
+    fn based(alloc: Global) -> Result<Played, Fail> {
+        let pending = base(alloc)?;
+        Ok(Played {
+            table: Table::new(alloc, Lsn(5), &pending)?,
+            floor: 5,
+            last: 5,
+        })
+    }
 
-// A table whose base, at position 5, has a transaction that began at 3.
-fn based(alloc: Global) -> Result<Table, Fail>
-    ensures last { IfOk result (λ t. t.last.0 ≡ 5) }
-    ensures floor { IfOk result (λ t. t.floor.0 ≡ 5) }
-{
-    let pending = base(alloc)?;
-    Ok(Table::new(alloc, Lsn(5), &pending.clone()?)?)
+    fn take(
+        &mut self,
+        rt: &impl Abort,
+        alloc: Global,
+        lsn: u64,
+        step: Step,
+        commits: &str,
+    ) -> Result<(), Fail> {
+        assert!(rt; self.last < lsn);
+        let body = record(alloc, step)?;
+        let commit = self.table.take(Lsn(lsn), &body)?;
+        self.last = lsn;
+        let text = commit_text(alloc, &commit)?;
+        assert_eq!(rt; text.as_slice(), commits.as_bytes(), "{lsn}");
+        Ok(())
+    }
+
+    fn refuse(
+        &mut self,
+        rt: &impl Abort,
+        alloc: Global,
+        lsn: u64,
+        step: Step,
+        fault: TableError,
+    ) -> Result<(), Fail> {
+        assert!(rt; self.last < lsn);
+        let body = record(alloc, step)?;
+        match self.table.take(Lsn(lsn), &body) {
+            Ok(_) => {
+                self.last = lsn;
+                Err(Fail::new("it was taken"))
+            }
+            Err(error) => {
+                assert_eq!(rt; error, fault);
+                Ok(())
+            }
+        }
+    }
+
+    fn cut(&mut self, rt: &impl Abort, lsn: u64) {
+        assert!(rt; self.floor <= lsn);
+        self.table.cut_to(Lsn(lsn));
+        if lsn < self.last {
+            self.last = lsn;
+        }
+    }
+
+    fn forget(&mut self, rt: &impl Abort, lsn: u64) {
+        assert!(rt; self.floor < lsn);
+        assert!(rt; lsn <= self.last);
+        self.table.forget_below(Lsn(lsn));
+        self.floor = lsn;
+    }
+
+    fn pending(&self, rt: &impl Abort, alloc: Global, lsn: u64, wanted: &str) -> Result<(), Fail> {
+        assert!(rt; self.floor <= lsn);
+        assert!(rt; lsn <= self.last);
+        let pending = self.table.pending(Lsn(lsn))?;
+        let text = pending_text(alloc, &pending)?;
+        assert_eq!(rt; text.as_slice(), wanted.as_bytes(), "{lsn}");
+        Ok(())
+    }
 }
 
 // The transactions pending at the base, whose operations are put in by hand.
@@ -176,178 +257,140 @@ fn base(alloc: Global) -> Result<Pending, Fail>
     Ok(pending)
 }
 
-fn cut(table: &mut Table, lsn: u64)
-    requires { table.old.floor.0 ≤ lsn }
-    ensures last { table.new.last.0 ≤ lsn }
-    ensures floor { table.new.floor ≡ table.old.floor }
-{
-    table.cut_to(Lsn(lsn));
-}
-
-// The digits and letters of what is pending at a position.
-fn pending_text(alloc: Global, table: &Table, lsn: u64) -> Result<Vec<u8>, Fail>
-    requires floor { table.now.floor.0 ≤ lsn }
-    requires last { lsn ≤ table.now.last.0 }
-{
-    let pending = table.pending(Lsn(lsn))?;
-    let mut told = Vec::new(alloc);
-    for open in pending.as_slice() {
-        told.push(digit(open.txn))?;
-        for logged in open.ops.as_slice() {
-            told.push(letter(&logged.1))?;
+fn play(rt: &impl Abort, alloc: Global, played: &mut Played, row: Row) -> Result<(), Fail> {
+    match row {
+        Row::Take(lsn, step, commits) => played.take(rt, alloc, lsn, step, commits),
+        Row::Refuse(lsn, step, prev, wanted) => {
+            let fault = TableError::BadLink {
+                lsn: Lsn(lsn),
+                prev: Lsn(prev),
+                wanted: Lsn(wanted),
+            };
+            played.refuse(rt, alloc, lsn, step, fault)
         }
-    }
-    Ok(told)
-}
-
-// What is pending at a position of a log, before and after the floor is raised to it.
-fn pending_after(alloc: Global, log: &[Step], lsn: u64) -> Result<(Vec<u8>, Vec<u8>), Fail>
-    requires { (0 < lsn) × (lsn ≤ length log.now) }
-{
-    let mut table = empty(alloc)?;
-    let mut told = Vec::new(alloc);
-    feed(alloc, &mut table, 0, log, &mut told)?;
-    let before = pending_text(alloc, &table, lsn)?;
-    table.forget_below(Lsn(lsn));
-    let after = pending_text(alloc, &table, lsn)?;
-    Ok((before, after))
-}
-
-// What a record tells that is refused: its position, what it names and what it should.
-fn refusal(table: &mut Table, lsn: u64, body: &Record) -> (u64, u64, u64)
-    requires { table.old.last.0 < lsn }
-{
-    match table.take(Lsn(lsn), body) {
-        Err(TableError::BadLink { lsn, prev, wanted }) => (lsn.0, prev.0, wanted.0),
-        _ => (0, 0, 0),
+        Row::Cut(lsn) => {
+            played.cut(rt, lsn);
+            Ok(())
+        }
+        Row::Forget(lsn) => {
+            played.forget(rt, lsn);
+            Ok(())
+        }
+        Row::Pending(lsn, wanted) => played.pending(rt, alloc, lsn, wanted),
     }
 }
 
-// That of a record behind the log of links, at position 5.
-fn refused(alloc: Global, step: Step) -> Result<(u64, u64, u64), Fail> {
-    let mut table = empty(alloc)?;
-    let mut told = Vec::new(alloc);
-    feed(alloc, &mut table, 0, &LINKS, &mut told)?;
-    let body = record(alloc, step)?;
-    Ok(refusal(&mut table, 5, &body))
-}
-
-#[test]
-fn commits_of_transactions_that_take_turns(rt: HostRuntime) -> Result<(), Fail> {
-    let alloc = rt.alloc();
-    let mut table = empty(alloc)?;
-    let mut told = Vec::new(alloc);
-    feed(alloc, &mut table, 0, &TURNS, &mut told)?;
-    assert_eq!(rt; told.as_slice(), b"2b1ac".as_slice());
+fn play_all(rt: &impl Abort, alloc: Global, played: &mut Played, rows: &[Row]) -> Result<(), Fail> {
+    for row in rows {
+        play(rt, alloc, played, *row)?;
+    }
     Ok(())
 }
 
-// What commits in the log of turns when it is cut at a position and taken again from there.
-fn again(alloc: Global, at: usize) -> Result<Vec<u8>, Fail> {
-    let mut table = empty(alloc)?;
-    let mut told = Vec::new(alloc);
-    feed(alloc, &mut table, 0, &TURNS, &mut told)?;
-    cut(&mut table, at as u64);
-    told.clear();
-    feed(alloc, &mut table, at, &TURNS, &mut told)?;
-    Ok(told)
+// The records of an empty log, and then what is done.
+fn run(rt: &impl Abort, alloc: Global, log: &[Row], rows: &[Row]) -> Result<(), Fail> {
+    let mut played = Played::empty(alloc)?;
+    play_all(rt, alloc, &mut played, log)?;
+    play_all(rt, alloc, &mut played, rows)
+}
+
+fn run_based(rt: &impl Abort, alloc: Global, rows: &[Row]) -> Result<(), Fail> {
+    let mut played = Played::based(alloc)?;
+    play_all(rt, alloc, &mut played, rows)
+}
+
+// The log of turns, cut at a position and taken again from there.
+fn run_again(rt: &impl Abort, alloc: Global, at: usize) -> Result<(), Fail>
+    requires { at ≤ 11 }
+{
+    let mut played = Played::empty(alloc)?;
+    play_all(rt, alloc, &mut played, &TURNS)?;
+    played.cut(rt, at as u64);
+    play_all(rt, alloc, &mut played, &TURNS[at..])
 }
 
 #[test]
 fn cut_and_taken_again(rt: HostRuntime) -> Result<(), Fail> {
     for at in 0..12usize {
-        let told = again(rt.alloc(), at)?;
-        let wanted = if at < 6 {
-            b"2b1ac".as_slice()
-        } else if at < 8 {
-            b"1ac".as_slice()
-        } else {
-            b"".as_slice()
-        };
-        assert_eq!(rt; told.as_slice(), wanted);
+        run_again(&rt, rt.alloc(), at)?;
     }
     Ok(())
 }
 
 #[test]
 fn pending_at_each_position(rt: HostRuntime) -> Result<(), Fail> {
-    let wanted = [b"2".as_slice(), b"2a", b"12a", b"1b2a", b"1b", b""];
-    for (at, text) in wanted.iter().enumerate() {
-        if at < 6 {
-            let (before, after) = pending_after(rt.alloc(), &EPOCH, at as u64 + 1)?;
-            assert_eq!(rt; before.as_slice(), *text);
-            assert_eq!(rt; after.as_slice(), *text);
-        }
+    for (lsn, text) in [
+        (1, "2"),
+        (2, "2a"),
+        (3, "12a"),
+        (4, "1b2a"),
+        (5, "1b"),
+        (6, ""),
+    ] {
+        let rows = [
+            Row::Pending(lsn, text),
+            Row::Forget(lsn),
+            Row::Pending(lsn, text),
+        ];
+        run(&rt, rt.alloc(), EPOCH, &rows)?;
     }
     Ok(())
 }
 
+// What an epoch ended is pending again.
+const ENDED_AGAIN: &[Row] = &[Row::Cut(5), Row::Take(6, Step::End(1, 4, true), "1b")];
+
 #[test]
-fn what_an_epoch_ended_is_pending_again(rt: HostRuntime) -> Result<(), Fail> {
-    let alloc = rt.alloc();
-    let mut table = empty(alloc)?;
-    let mut told = Vec::new(alloc);
-    feed(alloc, &mut table, 0, &EPOCH, &mut told)?;
-    cut(&mut table, 5);
-    take(alloc, &mut table, 6, Step::End(1, 4, true), &mut told)?;
-    assert_eq!(rt; told.as_slice(), b"2a1b".as_slice());
+fn an_epoch_taken_back(rt: HostRuntime) -> Result<(), Fail> {
+    run(&rt, rt.alloc(), EPOCH, ENDED_AGAIN)
+}
+
+// A transaction begins once.
+const BEGINS: &[Row] = &[
+    Row::Refuse(5, Step::Begin(1), 0, 2),
+    Row::Refuse(5, Step::Begin(2), 0, 4),
+];
+
+// A transaction that acts or ends is pending.
+const NOT_PENDING: &[Row] = &[
+    Row::Refuse(5, Step::Act(3, 4, b'a'), 4, 0),
+    Row::Refuse(5, Step::Act(2, 4, b'a'), 4, 4),
+    Row::Refuse(5, Step::End(4, 0, true), 0, 0),
+];
+
+// A link names the last record.
+const OTHER_LINKS: &[Row] = &[
+    Row::Refuse(5, Step::Act(1, 1, b'a'), 1, 2),
+    Row::Refuse(5, Step::End(1, 3, true), 3, 2),
+    Row::Take(5, Step::End(1, 2, true), "1a"),
+];
+
+#[test]
+fn links(rt: HostRuntime) -> Result<(), Fail> {
+    for rows in [BEGINS, NOT_PENDING, OTHER_LINKS] {
+        run(&rt, rt.alloc(), LINKS, rows)?;
+    }
     Ok(())
 }
 
-#[test]
-fn a_transaction_begins_once(rt: HostRuntime) -> Result<(), Fail> {
-    let alloc = rt.alloc();
-    assert_eq!(rt; refused(alloc, Step::Begin(1))?, (5, 0, 2));
-    assert_eq!(rt; refused(alloc, Step::Begin(2))?, (5, 0, 4));
-    Ok(())
-}
+const PENDING_AT_THE_BASE: &[Row] = &[
+    Row::Take(6, Step::Act(1, 4, b'b'), ""),
+    Row::Take(7, Step::End(1, 6, true), "1ab"),
+];
+
+const BEGUN_AT_THE_BASE: &[Row] = &[Row::Refuse(6, Step::Begin(1), 0, 4)];
+
+// What ended below the floor is forgotten.
+const FORGOTTEN: &[Row] = &[
+    Row::Take(6, Step::End(1, 4, false), ""),
+    Row::Forget(6),
+    Row::Take(7, Step::Begin(1), ""),
+];
 
 #[test]
-fn a_transaction_is_pending(rt: HostRuntime) -> Result<(), Fail> {
-    let alloc = rt.alloc();
-    assert_eq!(rt; refused(alloc, Step::Act(3, 4, b'a'))?, (5, 4, 0));
-    assert_eq!(rt; refused(alloc, Step::Act(2, 4, b'a'))?, (5, 4, 4));
-    assert_eq!(rt; refused(alloc, Step::End(4, 0, true))?, (5, 0, 0));
-    Ok(())
-}
-
-#[test]
-fn a_link_names_the_last_record(rt: HostRuntime) -> Result<(), Fail> {
-    let alloc = rt.alloc();
-    assert_eq!(rt; refused(alloc, Step::Act(1, 1, b'a'))?, (5, 1, 2));
-    assert_eq!(rt; refused(alloc, Step::End(1, 3, true))?, (5, 3, 2));
-    assert_eq!(rt; refused(alloc, Step::End(1, 2, true))?, (0, 0, 0));
-    Ok(())
-}
-
-#[test]
-fn pending_at_the_base(rt: HostRuntime) -> Result<(), Fail> {
-    let alloc = rt.alloc();
-    let mut table = based(alloc)?;
-    let mut told = Vec::new(alloc);
-    take(alloc, &mut table, 6, Step::Act(1, 4, b'b'), &mut told)?;
-    take(alloc, &mut table, 7, Step::End(1, 6, true), &mut told)?;
-    assert_eq!(rt; told.as_slice(), b"1ab".as_slice());
-    Ok(())
-}
-
-#[test]
-fn a_base_begins_none_again(rt: HostRuntime) -> Result<(), Fail> {
-    let alloc = rt.alloc();
-    let mut table = based(alloc)?;
-    let body = record(alloc, Step::Begin(1))?;
-    assert_eq!(rt; refusal(&mut table, 6, &body), (6, 0, 4));
-    Ok(())
-}
-
-#[test]
-fn what_ended_below_the_floor_is_forgotten(rt: HostRuntime) -> Result<(), Fail> {
-    let alloc = rt.alloc();
-    let mut table = based(alloc)?;
-    let mut told = Vec::new(alloc);
-    take(alloc, &mut table, 6, Step::End(1, 4, false), &mut told)?;
-    table.forget_below(Lsn(6));
-    let body = record(alloc, Step::Begin(1))?;
-    assert_eq!(rt; refusal(&mut table, 7, &body), (0, 0, 0));
+fn from_a_base(rt: HostRuntime) -> Result<(), Fail> {
+    for rows in [PENDING_AT_THE_BASE, BEGUN_AT_THE_BASE, FORGOTTEN] {
+        run_based(&rt, rt.alloc(), rows)?;
+    }
     Ok(())
 }

@@ -7,8 +7,8 @@ use Rattle.rc_base.specs.declared.ids.TxnId.{TxnId}
 use Rattle.rc_base.specs.Ids.{is_epoch, is_txn, epoch_le}
 use Rattle.config_rule.specs.declared.appointments.Appointed.{Appointed}
 use Rattle.txn_table.specs.declared.committed.Committed.{Committed}
+use Rattle.txn_table.specs.Log.{last_epoch}
 use Rattle.log_store.specs.declared.kept.Kept.{Kept as Log}
-use Rattle.log_store.specs.Log.{last_epoch}
 use Rattle.order_machine.specs.Order.{Entry, holds}
 use Rattle.order_machine.specs.Machine.{Appointment, Txn, ops_of}
 use Rattle.events.specs.Replay.{Replays}

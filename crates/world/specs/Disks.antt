@@ -1,5 +1,5 @@
 -- What the disks hold of the order.
-use Rattle.std.specs.Prelude.{◌≡◌, ℕ, ◌+◌, ◌≤◌, true, ◌==◌, List, [], ◌∷◌, length, map, take, Ok, None, if◌then◌else◌}
+use Rattle.std.specs.Prelude.{◌≡◌, ℕ, ◌+◌, ◌≤◌, true, ◌==◌, List, [], ◌∷◌, length, map, Ok, None, if◌then◌else◌}
 use Rattle.std.specs.List.{list_any, AllByRecursion}
 use Rattle.rc_base.specs.declared.ids.TxnId.{TxnId}
 use Rattle.rc_base.specs.Ids.{is_txn}
@@ -7,10 +7,11 @@ use Rattle.rc_base.specs.Quorum.{write_quorum}
 use Rattle.rc_base.specs.Members.{first_twice}
 use Rattle.disk_model.specs.Disk.{Areas, Each}
 use Rattle.txn_table.specs.declared.committed.Committed.{Committed}
+use Rattle.txn_table.specs.Held.{CommitOrder, HoldsOrder}
+use Rattle.txn_table.specs.Log.{no_base}
 use Rattle.log_store.specs.declared.kept.Kept.{Kept as Log}
 use Rattle.log_store.specs.Durable.{durable}
-use Rattle.log_store.specs.Log.{commits_in}
-use Rattle.order_machine.specs.Order.{Entry, Order, first_of}
+use Rattle.order_machine.specs.Order.{Entry, Order}
 use Rattle.order_machine.specs.Machine.{Machine, order_of, is_booted}
 
 -- a commit of a log that is this entry of the order
@@ -24,11 +25,13 @@ acknowledged_to acknowledged (e ∷ entries) =
     let behind = acknowledged_to acknowledged entries in
     if behind == 0 then (if list_any (is_txn e.txn) acknowledged then 1 else 0) else behind + 1
 
--- A log holds an order to a place: its first commits are the first entries of the order, in order, each with its
--- operations. So the states are those of the order too.
-pub record HoldsTo (order : Order) (place : ℕ) (log : Log) : Type 0 where
-  pub enough : place ≤ length (commits_in log.records)
-  pub same : take place (commits_in log.records) ≡ map as_commit (first_of order place)
+-- the entries of an order as commits, from its start on
+abbrev pub commits_of : Order → CommitOrder
+commits_of order = record { count = order.base; contents = order.start; commits = map as_commit order.entries }
+
+-- a log, which has nothing before it, holds an order to a place
+abbrev pub HoldsTo : Order → ℕ → Log → Type 0
+HoldsTo order place log = HoldsOrder no_base log.records (commits_of order) place
 
 -- each image of a disk holds what was acknowledged of the order that replica r shows a beginning of
 abbrev pub DiskHolds : Machine → ℕ → (Areas → Type 0) → Type 0

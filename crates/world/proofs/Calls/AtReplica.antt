@@ -11,9 +11,9 @@ use Rattle.rc_base.specs.Ids.{is_txn}
 use Rattle.coll_model.specs.declared.op.Op.{Op}
 use Rattle.coll_model.specs.Effect.{State, folded}
 use Rattle.disk_model.specs.Disk.{Areas}
+use Rattle.txn_table.specs.Log.{commits_in}
 use Rattle.log_store.specs.declared.kept.Kept.{Kept as Log}
 use Rattle.log_store.specs.Durable.{StandFor}
-use Rattle.log_store.specs.Log.{commits_in}
 use Rattle.log_store.specs.Store.{Store}
 use Rattle.events.specs.declared.event.Event.TheVariants.{Client}
 use Rattle.events.specs.declared.call.Call.{Call}

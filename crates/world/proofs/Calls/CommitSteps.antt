@@ -8,8 +8,8 @@ use Rattle.rc_base.specs.declared.ids.TxnId.{TxnId}
 use Rattle.coll_model.specs.Effect.{State, folded}
 use Rattle.disk_model.specs.Disk.{Areas}
 use Rattle.txn_table.specs.declared.committed.Committed.{Committed}
+use Rattle.txn_table.specs.Log.{commits_in}
 use Rattle.log_store.specs.declared.kept.Kept.{Kept as Log}
-use Rattle.log_store.specs.Log.{commits_in}
 use Rattle.events.specs.declared.event.Event.TheVariants.{Client}
 use Rattle.events.specs.declared.call.Call.{Call}
 use Rattle.events.specs.declared.call.Call.TheVariants.{Begin, Make, OnKey, Commit, Abort}

@@ -10,9 +10,9 @@ use Rattle.txn_front.proofs.Fronts.{told_ended}
 use Rattle.rc_base.proofs.SameIds.{is_txn_same}
 use Rattle.key_locks.specs.Grants.{released}
 use Rattle.disk_model.specs.Disk.{Areas, Each}
+use Rattle.txn_table.specs.Log.{commits_in}
 use Rattle.log_store.specs.declared.kept.Kept.{Kept as Log}
 use Rattle.log_store.specs.Durable.{durable, StandForOneOf}
-use Rattle.log_store.specs.Log.{commits_in}
 use Rattle.events.specs.declared.event.Event.TheVariants.{Client}
 use Rattle.events.specs.declared.call.Call.{Call}
 use Rattle.events.specs.declared.call.Call.TheVariants.{Begin, Make, OnKey, Commit, Abort}

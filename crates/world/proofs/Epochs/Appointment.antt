@@ -10,7 +10,7 @@ use Rattle.rc_base.specs.Ids.{epoch_lt}
 use Rattle.coll_model.specs.Effect.{folded}
 use Rattle.disk_model.specs.Disk.{Areas}
 use Rattle.txn_table.specs.declared.committed.Committed.{Committed}
-use Rattle.log_store.specs.Log.{commits_in, last_epoch}
+use Rattle.txn_table.specs.Log.{commits_in, last_epoch}
 use Rattle.events.specs.declared.event.Event.TheVariants.{Appoint}
 use Rattle.order_machine.specs.declared.observation.Observation.{Observation}
 use Rattle.order_machine.specs.declared.observation.Observation.TheVariants as says

@@ -12,11 +12,11 @@ use Rattle.config_rule.specs.declared.answers.SurveyAnswer.{SurveyAnswer}
 use Rattle.config_rule.specs.Rule.{with_answer}
 use Rattle.disk_model.specs.Disk.{Areas, Each}
 use Rattle.log_records.specs.declared.record.Physical.TheVariants.{Fence}
+use Rattle.txn_table.specs.Log.{Items, commits_in, last_epoch}
 use Rattle.log_store.specs.declared.kept.Kept.{Kept as Log}
 use Rattle.log_store.specs.Durable.{durable, StandForOneOf}
 use Rattle.log_store.specs.Epochs.{later}
 use Rattle.log_store.specs.Growth.{after}
-use Rattle.log_store.specs.Log.{Items, commits_in, last_epoch}
 use Rattle.events.specs.declared.event.Event.TheVariants.{Survey}
 use Rattle.order_machine.specs.declared.observation.Observation.TheVariants as says
 use Rattle.order_machine.specs.Order.{Entry}

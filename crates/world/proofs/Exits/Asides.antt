@@ -6,8 +6,8 @@ use Rattle.world.proofs.Epochs.Previous.{holds_role}
 use Rattle.coll_model.specs.Effect.{folded}
 use Rattle.disk_model.specs.Disk.{Areas, Within}
 use Rattle.txn_table.specs.declared.committed.Committed.{Committed}
+use Rattle.txn_table.specs.Log.{commits_in}
 use Rattle.log_store.specs.declared.kept.Kept.{Kept as Log}
-use Rattle.log_store.specs.Log.{commits_in}
 use Rattle.events.specs.declared.event.Event.TheVariants.{Arm, Inspect}
 use Rattle.order_machine.specs.declared.observation.Observation.{Observation}
 use Rattle.order_machine.specs.declared.observation.Observation.TheVariants as says

@@ -10,12 +10,12 @@ use Rattle.rc_base.specs.Ids.{no_epoch, epoch_lt}
 use Rattle.key_locks.specs.declared.lock_mode.LockMode.TheVariants.{Exclusive}
 use Rattle.coll_model.specs.Effect.{folded}
 use Rattle.disk_model.specs.Disk.{Areas, Follows}
+use Rattle.txn_table.specs.Log.{commits_in}
 use Rattle.log_store.specs.declared.kept.Kept.{Kept as Log}
 use Rattle.log_store.specs.Durable.{durable, StandFor}
 use Rattle.log_store.specs.Epochs.{later}
 use Rattle.log_store.specs.Fold.{no_log}
 use Rattle.log_store.specs.Growth.{new_log}
-use Rattle.log_store.specs.Log.{commits_in}
 use Rattle.log_store.specs.Store.{KeepsOrBegins}
 use Rattle.events.specs.declared.event.Event.TheVariants.{Boot}
 use Rattle.order_machine.specs.declared.observation.Observation.{Observation}

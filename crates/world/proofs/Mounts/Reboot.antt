@@ -7,11 +7,11 @@ use Rattle.rc_base.specs.Ids.{no_epoch}
 use Rattle.rc_base.specs.declared.no_memory.NoMemory.{NoMemory}
 use Rattle.disk_model.specs.Disk.{Areas, Each, Within, Only, Follows}
 use Rattle.txn_table.specs.declared.committed.Committed.{Committed}
+use Rattle.txn_table.specs.Log.{commits_in}
 use Rattle.log_store.specs.declared.kept.Kept.{Kept as Log}
 use Rattle.log_store.specs.Durable.{durable}
 use Rattle.log_store.specs.Fold.{Place, no_log}
 use Rattle.log_store.specs.Growth.{new_log}
-use Rattle.log_store.specs.Log.{commits_in}
 use Rattle.log_store.specs.Store.{KeepsOrBegins}
 use Rattle.events.specs.declared.event.Event.TheVariants.{Crash, Reboot}
 use Rattle.order_machine.specs.declared.observation.Observation.{Observation}

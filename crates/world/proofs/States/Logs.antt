@@ -1,14 +1,15 @@
 -- What the logs of a disk hold of the order.
-use Rattle.std.proofs.Common.{◌≡◌, ◌∙◌, sym, ap, subst, ℕ, ◌+◌, ◌-◌, ◌*◌, ◌≤◌, Bool, true, false, cond, List, [], ◌∷◌, ◌++◌, length, map, take, Ok, arith, append-nil, length-append, ◌==◌, flat_map, refl}
+use Rattle.std.proofs.Common.{◌≡◌, ◌∙◌, sym, ap, subst, ℕ, ◌+◌, ◌*◌, ◌≤◌, Bool, true, false, cond, List, [], ◌∷◌, ◌++◌, length, map, take, Ok, arith, append-nil, length-append, ◌==◌, flat_map, refl}
 use Rattle.std.specs.List.{list_any}
-use Rattle.std.proofs.lemmas.List.{take-append-le, take-map, length-map}
+use Rattle.std.proofs.lemmas.List.{take-append-le, length-map}
 use Rattle.rc_base.specs.declared.ids.TxnId.{TxnId}
 use Rattle.rc_base.specs.Ids.{is_txn}
 use Rattle.disk_model.specs.Disk.{Areas, Each}
 use Rattle.txn_table.specs.declared.committed.Committed.{Committed}
+use Rattle.txn_table.specs.Log.{commits_in}
+use Rattle.txn_table.proofs.HeldOrders.{whole_holds}
 use Rattle.log_store.specs.declared.kept.Kept.{Kept as Log}
 use Rattle.log_store.specs.Durable.{durable}
-use Rattle.log_store.specs.Log.{commits_in}
 use Rattle.order_machine.specs.Order.{Entry, Order}
 use Rattle.order_machine.specs.Machine.{Replica, Txn}
 use Rattle.replica.specs.Open.{shown_in}
@@ -42,11 +43,10 @@ ops_of_entries (e ∷ entries) = ap (λ rest. e.ops ++ rest) (ops_of_entries ent
 abbrev pub order_of_entries : List Entry → Order
 order_of_entries entries = record { base = 0; start = []; entries = entries }
 
-holds_place : (entries : List Entry) (commits more : List Committed) (n : ℕ) → map as_commit entries ++ more ≡ commits → n ≤ length entries → take n commits ≡ map as_commit (take (n - 0) entries)
+holds_place : (entries : List Entry) (commits more : List Committed) (n : ℕ) → map as_commit entries ++ more ≡ commits → n ≤ length entries → take n commits ≡ take n (map as_commit entries)
 holds_place entries commits more n e few =
     let fits : n ≤ length (map as_commit entries) = let l = length-map entries as_commit in omega (arith, l) in
-    let z : n - 0 ≡ n = omega arith in
-    subst (λ cs. take n cs ≡ map as_commit (take (n - 0) entries)) e (take-append-le n (map as_commit entries) more fits ∙ (take-map as_commit n entries ∙ ap (λ k. map as_commit (take k entries)) (sym z)))
+    subst (λ cs. take n cs ≡ take n (map as_commit entries)) e (take-append-le n (map as_commit entries) more fits)
 
 holds_enough : (entries : List Entry) (commits more : List Committed) (n : ℕ) → map as_commit entries ++ more ≡ commits → n ≤ length entries → n ≤ length commits
 holds_enough entries commits more n e few =
@@ -59,10 +59,12 @@ abbrev pub BeginsWith : List Entry → Log → Type 0
 BeginsWith entries log = (more : List Committed) × (map as_commit entries ++ more ≡ commits_in log.records)
 
 pub begins_hold : (entries : List Entry) (acknowledged : List TxnId) (log : Log) → BeginsWith entries log → HoldsTo (order_of_entries entries) (acknowledged_to acknowledged entries) log
-begins_hold entries acknowledged log begins = record {
-  enough = holds_enough entries (commits_in log.records) begins.0 (acknowledged_to acknowledged entries) begins.1 (acknowledged_few acknowledged entries);
-  same = holds_place entries (commits_in log.records) begins.0 (acknowledged_to acknowledged entries) begins.1 (acknowledged_few acknowledged entries);
-}
+begins_hold entries acknowledged log begins =
+    let place = acknowledged_to acknowledged entries in
+    (whole_holds log.records (map as_commit entries) place).1 (record {
+      enough = holds_enough entries (commits_in log.records) begins.0 place begins.1 (acknowledged_few acknowledged entries);
+      same = holds_place entries (commits_in log.records) begins.0 place begins.1 (acknowledged_few acknowledged entries);
+    })
 
 pub begins_still : (entries : List Entry) (acknowledged : List TxnId) (first : Replica) (txns : List (TxnId × Txn)) (course : Course) (images : Areas → Type 0) → first.loss ≡ 0 → Each images (λ c. (log : Log) × (durable c ≡ Ok log) × BeginsWith entries log) → StillHolds (standing entries acknowledged first txns course) images
 begins_still entries acknowledged r txns course images loss begins booted c is =

@@ -3,17 +3,17 @@ use Rattle.rc_base.specs.declared.ids.Epoch.{Epoch}
 use Rattle.log_records.specs.declared.record.Record.{Record}
 use Rattle.log_records.specs.declared.record.Record.TheVariants.{Begin, EpochStart}
 use Rattle.log_records.specs.declared.record.Physical.{Physical}
+use Rattle.txn_table.specs.Log.{MayStandAfter, no_base}
 use Rattle.log_store.specs.declared.kept.Kept.{Kept}
 use Rattle.log_store.specs.Examples.{one, first_items}
-use Rattle.log_store.specs.Log.{MayStandBehind}
 use Rattle.log_store.specs.Growth.{GoesOn}
 use Rattle.log_store.specs.Store.{kept_as}
 use Rattle.log_store.proofs.tests.append_first.Goals as goal
 
 goes_from : (identity : Option ℕ) (fence : Epoch) → GoesOn (record { identity = identity; fence = fence; records = [] }) first_items
 goes_from identity fence =
-    let start : MayStandBehind [] one (EpochStart one) = record { follows = refl; stands = refl; linked = refl } in
-    let begin : MayStandBehind ((one, EpochStart one) ∷ []) one (Begin (record { epoch = one; n = 1 })) = record { follows = refl; stands = refl; linked = refl } in
+    let start : MayStandAfter no_base [] one (EpochStart one) = record { follows = refl; stands = refl; linked = refl } in
+    let begin : MayStandAfter no_base ((one, EpochStart one) ∷ []) one (Begin (record { epoch = one; n = 1 })) = record { follows = refl; stands = refl; linked = refl } in
     ((refl, start), ((refl, begin), (tt, tt)))
 
 first_goes : (v : Kept) → v.records ≡ [] → GoesOn v first_items

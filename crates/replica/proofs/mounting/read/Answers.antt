@@ -5,7 +5,7 @@ use Rattle.txn_table.specs.declared.committed.Committed.{Committed}
 use Rattle.txn_table.specs.declared.known.Known.{Known}
 use Rattle.txn_table.specs.Commits.{fault_in, commit_in}
 use Rattle.txn_table.specs.Tables.{State}
-use Rattle.log_store.specs.Log.{known_in}
+use Rattle.txn_table.specs.Log.{known_in}
 use Rattle.replica.specs.declared.mounting.Shown.{Shown}
 use Rattle.replica.specs.Reading.{IsRead, with_commit}
 use Rattle.replica.proofs.Opening.{linked_at, count_few, read_more, known_more, stable_stays}
