@@ -98,7 +98,7 @@ impl LineReader {
     fn seek<S: Source>(&mut self, source: &mut S) -> Result<Ready, Failed>
         ensures told { (rest : List ℕ) → S.left source.old ≡ Some rest → (rest' : List ℕ) × (S.left source.new ≡ Some rest') × (self.new.ahead ++ rest' ≡ self.old.ahead ++ rest) × IfOk result (Is self.old.lines self.old.given self.new.ahead rest') }
         ensures holds { IfOk result (Holds self.old.lines self.old.given self.new.ahead) }
-        ensures open { OnErr result (before_end self.new.ahead ≡ length self.new.ahead) }
+        ensures no_end { OnErr result (before_end self.new.ahead ≡ length self.new.ahead) }
         ensures lines { self.new.lines ≡ self.old.lines }
         ensures given { self.new.given ≡ self.old.given }
         ensures cause { Counted (S.faults source.old) (S.faults source.new) (IsErr result) }

@@ -273,7 +273,7 @@ nothing_done {M} {images} {faults} {marks} {fleet} input held holds h = (
 
 -- ---- what was read
 
-flat : List (List ℕ) → List ℕ
+abbrev flat : List (List ℕ) → List ℕ
 flat raws = flat_map (λ raw. raw) raws
 
 flat_first : (byte : ℕ) (raws : List (List ℕ)) → flat (onto_first byte raws) ≡ byte ∷ flat raws
@@ -283,11 +283,11 @@ flat_first byte (raw ∷ raws) = refl
 -- the lines of an input, one after the other, are the input
 flat_lines : (input : List ℕ) → flat (raw_lines input) ≡ input
 flat_lines [] = refl
-flat_lines (byte ∷ bytes) = by (byte == 10)
+flat_lines (byte ∷ bytes) = by (byte == 10) (flat_lines bytes)
   where
-    by : (b : Bool) → flat (cond b ((byte ∷ []) ∷ raw_lines bytes) (onto_first byte (raw_lines bytes))) ≡ byte ∷ bytes
-    by true = ap (λ (xs : List ℕ). byte ∷ xs) (flat_lines bytes)
-    by false = flat_first byte (raw_lines bytes) ∙ ap (λ (xs : List ℕ). byte ∷ xs) (flat_lines bytes)
+    by : (b : Bool) → flat (raw_lines bytes) ≡ bytes → flat (cond b ((byte ∷ []) ∷ raw_lines bytes) (onto_first byte (raw_lines bytes))) ≡ byte ∷ bytes
+    by true same = ap (λ (xs : List ℕ). byte ∷ xs) same
+    by false same = flat_first byte (raw_lines bytes) ∙ ap (λ (xs : List ℕ). byte ∷ xs) same
 
 -- of two beginnings of the same lines the shorter is a beginning of the longer
 shorter_begins : (b l g t : List (List ℕ)) → b ++ l ≡ g ++ t → length b ≤ length g → (m : List (List ℕ)) × (g ≡ b ++ m)
@@ -338,7 +338,7 @@ ended_read input held ahead unread given most status holds cut counted other h =
 -- the source failed
 pub failed_read : {M : Type 0} {images : M → Areas → Type 0} {faults : M → ℕ} {marks : M → Marks} {first fleet : List M} (input held now ahead unread : List ℕ) (before : List (List ℕ)) (world : Kept) (holds : Option (List ℕ)) →
     (d : Done images faults marks input held before (raw_lines (ahead ++ unread)) first fleet world now) → before_end ahead ≡ length ahead → holds ≡ Some now → RunEnded images faults marks input held unread first fleet 4 holds
-failed_read input held now ahead unread before world holds d open h =
+failed_read input held now ahead unread before world holds d no_end h =
     let all : input ≡ flat before ++ (ahead ++ unread) = sym (flat_lines input) ∙ (ap flat d.cut ∙ (flat_map-append (λ (raw : List ℕ). raw) before (raw_lines (ahead ++ unread)) ∙ ap (λ (xs : List ℕ). flat before ++ xs) (flat_lines (ahead ++ unread)))) in (
       transcript_of d.steps,
       h ∙ ap Some d.text,
@@ -355,7 +355,7 @@ failed_read input held now ahead unread before world holds d open h =
         text = inl (inl refl, sym (append-nil (transcript_of d.steps)));
       },
       keeps input held now before (raw_lines (ahead ++ unread)) world d (raw_lines (ahead ++ unread)) 4,
-      (ahead, append_assoc (flat before) ahead unread ∙ sym all, λ four. open),
+      (ahead, append_assoc (flat before) ahead unread ∙ sym all, λ four. no_end),
     )
 
 -- ---- completeness
@@ -371,6 +371,6 @@ complete input status written r clean source sink = by_text r.text
     at CutShort e (inl s) = absurd (source s)
     at CutShort e (inr s) = inr s
 
-    by_text : {W : Type 0} {V : Type 0} → (IsStatusOf r.ending status × W) ⊎ ((status ≡ 5) × V) → (status ≡ 0) ⊎ (status ≡ 8)
+    by_text : {W U V : Type 0} → (IsStatusOf r.ending status × W) ⊎ ((status ≡ 5) × U × V) → (status ≡ 0) ⊎ (status ≡ 8)
     by_text (inl s) = at r.ending r.ended s.0
     by_text (inr s) = absurd (sink s.0)

@@ -1,4 +1,4 @@
-use Rattle.std.proofs.Common.{◌∙◌, sym, ap, subst, List, ◌∷◌, ◌++◌, Some, Ok, Err, refl, inr, take}
+use Rattle.std.proofs.Common.{◌∙◌, sym, ap, subst, List, ◌∷◌, ◌++◌, Some, Ok, Err, refl, inr, take, arith}
 use Rattle.std.specs.Io.KnownBytes.{append_known}
 use Rattle.order_machine.specs.declared.observation.Observation.{Observation}
 use Rattle.transcript_text.specs.Lines.{lines_text}

@@ -26,4 +26,9 @@ returns-in-Err-clause-usage_text g c = λ held words h. cut_off c.in-Err.field-0
 pub returns-then-is_world-clause-complete : goal.returns-then-is_world-clause-complete
 returns-then-is_world-clause-complete g c = λ input held words told holds clean source sink.
     let ended = c.run_world.ensures.ran input held told holds in
-    complete input c.run_world.result ended.0 ended.2 clean (λ four. source (c.run_world.ensures.source_fault.rose four)) (λ five. sink (c.run_world.ensures.sink_fault.rose five))
+    complete input c.run_world.result ended.2.0 ended.2.2 clean (λ four. source (c.run_world.ensures.source_fault.rose four)) (λ five. sink (c.run_world.ensures.sink_fault.rose five))
+
+pub returns-then-is_world-clause-ran : goal.returns-then-is_world-clause-ran
+returns-then-is_world-clause-ran g c = λ input held words told holds.
+    let ended = c.run_world.ensures.ran input held told holds in
+    (ended.0, ended.2.0, ended.1, ended.2.1, ended.2.2, ended.2.3, ended.2.4)
