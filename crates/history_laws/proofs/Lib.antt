@@ -1,0 +1,10 @@
+pub mod QuietSuffixes
+pub mod TextSteps
+pub mod CallCases
+pub mod GuardSteps
+pub mod SettledSteps
+pub mod ShownStates
+pub mod Elsewhere
+pub mod OwnGuards
+pub mod IdleSteps
+pub mod RequestSteps

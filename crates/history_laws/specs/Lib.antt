@@ -1,0 +1,5 @@
+pub mod Texts
+pub mod LockGuards
+pub mod QuietCalls
+pub mod Invariant
+pub mod Laws
