@@ -8,3 +8,4 @@ pub mod Elsewhere
 pub mod OwnGuards
 pub mod IdleSteps
 pub mod RequestSteps
+pub mod EarlyReleaseRun

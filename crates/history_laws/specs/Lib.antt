@@ -3,3 +3,4 @@ pub mod LockGuards
 pub mod QuietCalls
 pub mod Invariant
 pub mod Laws
+pub mod EarlyRelease

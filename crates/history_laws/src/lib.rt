@@ -1,7 +1,8 @@
 //! Replay as a property of histories: what a log commits can be replayed at its place in the order, whoever is the primary
-//! when it gets there. Each law is the contract of a function that does nothing; `docs/PROTOCOL.md` says why it has to be so.
+//! when it gets there. Each law is the contract of a function that does nothing; `docs/MODEL.md` says why it has to be so.
 #![tactic(auto)]
 
+ghost use Rattle.history_laws.specs.EarlyRelease.{EarlyReleaseIsRefused};
 ghost use Rattle.history_laws.specs.Laws.{AcknowledgementsKeepGuards, AcknowledgementsKeepOthers, BeginningsAreTexts, CallsKeepGuards, CallsKeepIdle, CallsKeepRequests, CallsKeepTexts, CommitsLengthenTexts, EndedRolesAreIdle, IdleIsGuarded, NextMayBeOrdered, NothingIsRequestedBefore, RequestsAreContained, RequestsArePending, RequestsKeepOthers, RequestsKeepTexts, RoleEndsKeepOthers, RoleEndsKeepRequests, RoleEndsKeepTexts, ShownIsOrdered, ViewsKeepGuards, ViewsKeepOthers};
 
 /// A beginning of a text is a text.
@@ -115,4 +116,10 @@ pub fn role_ends_keep_requests()
 /// None is requested in an epoch before its appointment.
 pub fn nothing_is_requested_before()
     ensures { NothingIsRequestedBefore }
+{}
+
+/// With locks that are let go as their commit is logged, the guard doesn't hold: a reader is told what a replay contradicts,
+/// and what is logged is no text.
+pub fn early_release_is_refused()
+    ensures { EarlyReleaseIsRefused }
 {}
