@@ -55,10 +55,10 @@ pub role_there : (m : Machine) (r : ℕ) → is_active m r ≡ true → (role : 
 role_there m r active = passed (λ (role : Role). role.active) (role_of m r) active
 
 -- and is open
-up_there : (m : Machine) (r : ℕ) → Numbering m → is_active m r ≡ true → (replica m r).up ≡ false → ⊥
+pub up_there : (m : Machine) (r : ℕ) → Numbering m → is_active m r ≡ true → (replica m r).up ≡ false → ⊥
 up_there m r numbering active down =
     let has = role_there m r active in
-    none-some has.0 (sym (numbering.closed r down) ∙ has.1)
+    none-some has.0 (sym ((numbering.replicas r).closed down) ∙ has.1)
 
 -- ---- the next transaction is new
 
@@ -73,7 +73,7 @@ next_is_new m r numbering active = subst (λ (o : Option Role). txn_of m (next_t
 
     by : (o : Option Txn) → txn_of m next ≡ o → o ≡ None
     by None e = refl
-    by (Some x) e = let most : has.0.begins + 1 ≤ has.0.begins = numbering.counted r has.0 has.1 next x e refl in absurd (omega arith)
+    by (Some x) e = let most : has.0.begins + 1 ≤ has.0.begins = ((numbering.replicas r).role has.0 has.1).counted next x e refl in absurd (omega arith)
 
 -- ---- the cases
 
@@ -87,7 +87,7 @@ aborted x = record x { live = false }
 pub record CallCases (P : Machine → Type 0) (m : Machine) (r : ℕ) : Type 0 where
   pub same : P m
   pub quiet : (t : TxnId) (x : Txn) (c : CallRecord) → txn_of m t ≡ Some x → QuietCall c → P (put_txn m t (with_call x c))
-  pub begins : (t : TxnId) → is_active m r ≡ true → txn_of m t ≡ None → P (begun m r t)
+  pub begins : (t : TxnId) → t ≡ next_txn (role_of m r) → is_active m r ≡ true → txn_of m t ≡ None → P (begun m r t)
   pub locks : (t : TxnId) (x : Txn) (call : Call) (reply : Reply) → LiveAt m r t x → live_reply (grants_of m r) (seen m r x) t call ≡ Some reply
       → P (put_txn (put_grants m r (taken (grants_of m r) t (locks_at (seen m r x) call))) t (with_call x (note_of call reply)))
   pub aborts : (t : TxnId) (x : Txn) (c : CallRecord) → LiveAt m r t x → QuietCall c
@@ -151,7 +151,7 @@ module _ (P : Machine → Type 0) (m : Machine) (r : ℕ) (cases : CallCases P m
       by true false same e = subst (λ (z : Reply). P (begun_by m r z.answer)) (same_Some (plain (answers.NotActive r)) reply e) cases.same
       by true true same e =
           subst (λ (z : Reply). P (begun_by m r z.answer)) (same_Some (plain (answers.Txn (next_txn (role_of m r)))) reply e)
-          (cases.begins (next_txn (role_of m r)) same (next_is_new m r numbering same))
+          (cases.begins (next_txn (role_of m r)) refl same (next_is_new m r numbering same))
 
   -- a call on a collection
   locks_there : (t : TxnId) (call : Call) (reply : Reply) → Numbering m → txn_named call ≡ Some t → answer m r call ≡ Some reply → P (noted (asking_locks m r t call) t (note_of call reply))

@@ -60,7 +60,7 @@ pub elsewhere_cases : (m : Machine) (r q : ℕ) → (q ≡ r → ⊥) → CallCa
 elsewhere_cases m r q apart = record {
   same = record { same = refl; orders = refl; stays = HomeStays-itself q m.txns };
   quiet = λ t x c known quiet. quiet_elsewhere q m t x c known quiet;
-  begins = λ t active none. record {
+  begins = λ t next active none. record {
     same = other_replica m q r (record (replica m r) { role = option_map one_more_begun (role_of m r) }) apart;
     orders = refl;
     stays = HomeStays-elsewhere q r m.txns t (new_txn m r) apart (λ x known. absurd (none-some x (sym none ∙ known))) refl;

@@ -50,7 +50,7 @@ inactive_cases : (m : Machine) (r : ℕ) → is_active m r ≡ false → IdleRep
 inactive_cases m r inactive idle = record {
   same = idle;
   quiet = λ t x c known quiet. idle_elsewhere r m (put_txn m t (with_call x c)) (quiet_elsewhere r m t x c known quiet) idle;
-  begins = λ t active none. absurd (false≢true (sym inactive ∙ active));
+  begins = λ t next active none. absurd (false≢true (sym inactive ∙ active));
   locks = λ t x call reply at e. absurd (false≢true (sym inactive ∙ at.active));
   aborts = λ t x c at quiet. absurd (false≢true (sym inactive ∙ at.active));
 }

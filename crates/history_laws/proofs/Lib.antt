@@ -9,3 +9,4 @@ pub mod OwnGuards
 pub mod IdleSteps
 pub mod RequestSteps
 pub mod EarlyReleaseRun
+pub mod NumberingSteps

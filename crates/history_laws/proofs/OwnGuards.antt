@@ -92,7 +92,7 @@ own_cases : (m : Machine) (r : ℕ) (pending : List Committed) → ReplicaGuard 
 own_cases m r pending g = record {
   same = g;
   quiet = λ t x c known quiet. guard_elsewhere r m (put_txn m t (with_call x c)) (quiet_elsewhere r m t x c known quiet) pending g;
-  begins = λ t active none. begins_guarded m r pending g t active none;
+  begins = λ t next active none. begins_guarded m r pending g t active none;
   locks = λ t x call reply at e. locks_guarded m r pending g t x call reply at e;
   aborts = λ t x c at quiet.
       let mid : Machine = put_txn (put_grants m r (released (grants_of m r) t)) t (aborted x) in

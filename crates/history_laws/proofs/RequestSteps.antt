@@ -45,7 +45,7 @@ request_cases : (m : Machine) (r q : ℕ) (e : Epoch) (commits : List Committed)
 request_cases m r q e commits all = record {
   same = all;
   quiet = λ t x c known quiet. requests_same m.txns q e commits t x (with_call x c) known refl refl all;
-  begins = λ t active none. requests_put m.txns q e commits t (new_txn m r) (λ home epoch asked. absurd (false≢true asked)) all;
+  begins = λ t next active none. requests_put m.txns q e commits t (new_txn m r) (λ home epoch asked. absurd (false≢true asked)) all;
   locks = λ t x call reply at is. requests_same m.txns q e commits t x (with_call x (record { call = call; answer = reply.answer; op = reply.op })) at.known refl refl all;
   aborts = λ t x c at quiet.
       let mid : List (TxnId × Txn) = (t, aborted x) ∷ m.txns in

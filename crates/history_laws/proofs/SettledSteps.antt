@@ -41,7 +41,7 @@ pub settled_cases : (m : Machine) (r : ℕ) → CallCases (λ now. SettledStay m
 settled_cases m r = record {
   same = SettledStay-itself m.txns;
   quiet = λ t x c known quiet. settled_quiet m.txns t x c known quiet;
-  begins = λ t active none. settled_new m.txns t (new_txn m r) none;
+  begins = λ t next active none. settled_new m.txns t (new_txn m r) none;
   locks = λ t x call reply at e. settled_live m.txns t x (with_call x (record { call = call; answer = reply.answer; op = reply.op })) at.known at.live;
   aborts = λ t x c at quiet.
       let mid : List (TxnId × Txn) = (t, aborted x) ∷ m.txns in

@@ -9,7 +9,7 @@ use Rattle.events.specs.declared.answer.Reply.{Reply}
 use Rattle.lock_laws.specs.OrderedStates.{IsOrdered}
 use Rattle.txn_table.specs.declared.committed.Committed.{Committed}
 use Rattle.order_machine.specs.declared.observation.Observation.{Observation}
-use Rattle.order_machine.specs.Machine.{Machine, Txn, replica, order_of, is_active, is_shown, appointment_of, ops_of, ended_at, without_role, closed}
+use Rattle.order_machine.specs.Machine.{Machine, Txn, empty_machine, replica, order_of, is_active, is_shown, appointment_of, ops_of, ended_at, without_role, closed}
 use Rattle.order_machine.specs.Clients.{answer, answered_at}
 use Rattle.order_machine.specs.Transitions.{Position, MayOrder, going_at, asking, asking_commit, showing, acknowledging, appointing}
 use Rattle.history_laws.specs.Texts.{state_after, has_commit, IsText}
@@ -134,3 +134,20 @@ RoleEndsKeepRequests = (q : ℕ) (e : Epoch) (commits : List Committed) → Ends
 -- nothing is requested in an epoch that isn't appointed
 abbrev pub NothingIsRequestedBefore : Type 0
 NothingIsRequestedBefore = (m : Machine) (r : ℕ) (e : Epoch) (commits : List Committed) → Numbering m → appointment_of m e ≡ None → ContainsRequests m.txns r e commits
+
+-- ---- the names of transactions
+
+-- nothing is begun yet
+abbrev pub EmptyIsNumbered : Type 0
+EmptyIsNumbered = Numbering empty_machine
+
+-- an answered call lets the names count on: a begin gives one that is new
+abbrev pub CallsKeepNumbering : Type 0
+CallsKeepNumbering = (m : Machine) (r : ℕ) (call : Call) (reply : Reply) → Numbering m → answer m r call ≡ Some reply → Numbering (after_call m r call reply)
+
+-- so do the request of a commit, a view, an acknowledgement, and the end of a role without another
+pub record ChangesKeepNumbering : Type 0 where
+  pub request : (m : Machine) (r : ℕ) (t : TxnId) → Numbering m → Numbering (asking_commit m r t)
+  pub view : (m : Machine) (r n : ℕ) → Numbering m → Numbering (showing m r n)
+  pub acknowledgement : (m : Machine) (r : ℕ) (t : TxnId) → Numbering m → Numbering (acknowledging m r t)
+  pub role_end : (m : Machine) (r : ℕ) → Numbering m → Numbering (without_role m r) × Numbering (closed m r)

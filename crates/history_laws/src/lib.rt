@@ -3,7 +3,7 @@
 #![tactic(auto)]
 
 ghost use Rattle.history_laws.specs.EarlyRelease.{EarlyReleaseIsRefused};
-ghost use Rattle.history_laws.specs.Laws.{AcknowledgementsKeepGuards, AcknowledgementsKeepOthers, BeginningsAreTexts, CallsKeepGuards, CallsKeepIdle, CallsKeepRequests, CallsKeepTexts, CommitsLengthenTexts, EndedRolesAreIdle, IdleIsGuarded, NextMayBeOrdered, NothingIsRequestedBefore, RequestsAreContained, RequestsArePending, RequestsKeepOthers, RequestsKeepTexts, RoleEndsKeepOthers, RoleEndsKeepRequests, RoleEndsKeepTexts, ShownIsOrdered, ViewsKeepGuards, ViewsKeepOthers};
+ghost use Rattle.history_laws.specs.Laws.{AcknowledgementsKeepGuards, AcknowledgementsKeepOthers, BeginningsAreTexts, CallsKeepGuards, CallsKeepIdle, CallsKeepNumbering, CallsKeepRequests, CallsKeepTexts, ChangesKeepNumbering, CommitsLengthenTexts, EmptyIsNumbered, EndedRolesAreIdle, IdleIsGuarded, NextMayBeOrdered, NothingIsRequestedBefore, RequestsAreContained, RequestsArePending, RequestsKeepOthers, RequestsKeepTexts, RoleEndsKeepOthers, RoleEndsKeepRequests, RoleEndsKeepTexts, ShownIsOrdered, ViewsKeepGuards, ViewsKeepOthers};
 
 /// A beginning of a text is a text.
 pub fn beginnings_are_texts()
@@ -122,4 +122,19 @@ pub fn nothing_is_requested_before()
 /// and what is logged is no text.
 pub fn early_release_is_refused()
     ensures { EarlyReleaseIsRefused }
+{}
+
+/// The names of transactions count from the start of a world.
+pub fn empty_is_numbered()
+    ensures { EmptyIsNumbered }
+{}
+
+/// They count on over answered calls: a begin gives a new one, which is in no text.
+pub fn calls_keep_numbering()
+    ensures { CallsKeepNumbering }
+{}
+
+/// They count on over requests, views, acknowledgements and ends of roles.
+pub fn changes_keep_numbering()
+    ensures { ChangesKeepNumbering }
 {}
