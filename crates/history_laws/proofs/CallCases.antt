@@ -1,6 +1,6 @@
 -- What an answered call changes: nothing but a quiet call that is noted, or a transaction that is begun, locks and one more
 -- call of a live one, or the end of a live one by its abort.
-use Rattle.std.proofs.Common.{◌≡◌, ◌∙◌, ℕ, ◌+◌, ◌≤◌, Bool, true, false, not, ◌&&◌, eqb, cond, List, [], ◌∷◌, ◌++◌, Option, Some, None, refl, sym, ap, subst, arith}
+use Rattle.std.proofs.Common.{◌≡◌, ◌∙◌, ℕ, ◌+◌, ◌≤◌, Bool, true, false, not, ◌&&◌, eqb, cond, [], ◌∷◌, ◌++◌, Option, Some, None, refl, sym, ap, subst, arith}
 use Rattle.std.specs.Option.{option_map_or}
 use Rattle.std.specs.Map.{lookup}
 use Rattle.std.proofs.lemmas.Bool.{false≢true, and_parts, eqb-true, cond-true}
@@ -8,12 +8,9 @@ use Rattle.std.proofs.lemmas.Option.{none-some, same_Some}
 use Rattle.rc_base.specs.declared.ids.TxnId.{TxnId}
 use Rattle.rc_base.specs.Ids.{is_txn}
 use Rattle.rc_base.proofs.SameIds.{is_txn_same}
-use Rattle.coll_model.specs.declared.op.Kind.{Kind}
-use Rattle.coll_model.specs.Effect.{State}
-use Rattle.key_locks.specs.Grants.{Grant, released}
+use Rattle.key_locks.specs.Grants.{released}
 use Rattle.events.specs.declared.call.Call.{Call}
 use Rattle.events.specs.declared.call.Call.TheVariants.{Begin, Make, OnKey, Commit, Abort}
-use Rattle.events.specs.declared.call.KeyCall.{KeyCall}
 use Rattle.events.specs.declared.answer.Answer.TheVariants as answers
 use Rattle.events.specs.declared.answer.Reply.{Reply}
 use Rattle.events.specs.Calls.{CallRecord, txn_named}

@@ -1,5 +1,5 @@
 -- The run in which locks are let go as their commit is logged.
-use Rattle.std.proofs.Common.{◌≡◌, ◌∙◌, ℕ, Bool, true, false, cond, List, [], ◌∷◌, Option, Some, None, refl, sym, ap, subst}
+use Rattle.std.proofs.Common.{◌≡◌, ◌∙◌, Bool, true, false, cond, List, [], ◌∷◌, Some, None, refl, sym, ap, subst}
 use Rattle.std.specs.List.{IsDistinct}
 use Rattle.std.specs.Map.{lookup}
 use Rattle.std.proofs.lemmas.Bool.{false≢true}
@@ -12,7 +12,6 @@ use Rattle.coll_model.specs.Effect.{State}
 use Rattle.key_locks.specs.declared.lock_name.LockName.TheVariants.{Name}
 use Rattle.key_locks.specs.declared.lock_mode.LockMode.TheVariants.{Exclusive}
 use Rattle.key_locks.specs.Grants.{Grant}
-use Rattle.events.specs.declared.answer.Answer.{Answer}
 use Rattle.events.specs.declared.answer.Answer.TheVariants as answers
 use Rattle.events.specs.declared.answer.Reply.{Reply}
 use Rattle.events.specs.Answers.{plain}
@@ -21,7 +20,6 @@ use Rattle.events.specs.Replay.{Replays}
 use Rattle.lock_laws.specs.Protected.{HasLock, AreProtected}
 use Rattle.lock_laws.proofs.ProtectedGrants.{AreExclusive-nil, AreExclusive-granted}
 use Rattle.lock_laws.proofs.ProtectedStates.{IsOrdered-nil}
-use Rattle.txn_table.specs.declared.committed.Committed.{Committed}
 use Rattle.order_machine.specs.Machine.{Machine, Txn}
 use Rattle.order_machine.specs.Transitions.{asking_commit}
 use Rattle.history_laws.specs.Texts.{IsText}

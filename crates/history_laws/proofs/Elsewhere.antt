@@ -1,19 +1,17 @@
 -- What a change at one replica leaves at another, and that a guard and the want of one stay by that.
-use Rattle.std.proofs.Common.{◌≡◌, ◌∙◌, ℕ, Bool, true, false, cond, List, [], ◌∷◌, ◌++◌, set, get_or, Option, Some, None, option_map, refl, sym, ap, subst}
+use Rattle.std.proofs.Common.{◌≡◌, ◌∙◌, ℕ, true, false, List, [], ◌∷◌, set, get_or, Option, Some, None, option_map, refl, sym, ap, subst}
 use Rattle.std.specs.Option.{option_map_or}
-use Rattle.std.specs.Map.{lookup}
 use Rattle.std.proofs.lemmas.Option.{none-some, same_Some}
 use Rattle.std.proofs.lemmas.List.{get_or-set_other}
 use Rattle.rc_base.specs.declared.ids.Epoch.{Epoch}
 use Rattle.rc_base.specs.declared.ids.TxnId.{TxnId}
-use Rattle.rc_base.specs.Ids.{is_txn}
-use Rattle.key_locks.specs.Grants.{Grant, released}
+use Rattle.key_locks.specs.Grants.{released}
 use Rattle.events.specs.Calls.{CallRecord}
 use Rattle.events.specs.Locking.{locks_at, taken}
 use Rattle.txn_table.specs.declared.committed.Committed.{Committed}
 use Rattle.order_machine.specs.Order.{Order, empty_order, state_at}
-use Rattle.order_machine.specs.Machine.{Machine, Replica, Txn, never_opened, replica, put_replica, put_txn, txn_of, grants_of, put_grants, role_of, without_role, closed}
-use Rattle.order_machine.specs.Clients.{begun, new_txn, one_more_begun, seen}
+use Rattle.order_machine.specs.Machine.{Machine, Replica, Txn, never_opened, replica, put_replica, put_txn, txn_of, grants_of, role_of, without_role, closed}
+use Rattle.order_machine.specs.Clients.{new_txn, one_more_begun, seen}
 use Rattle.order_machine.specs.Transitions.{going_at, asking_commit, showing, acknowledging, appointing, new_role}
 use Rattle.history_laws.specs.LockGuards.{LockGuard, shown_at, ReplicaGuard, IdleReplica}
 use Rattle.history_laws.specs.QuietCalls.{QuietCall, HomeStays}

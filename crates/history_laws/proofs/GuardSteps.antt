@@ -1,9 +1,9 @@
 -- Guards: one transaction that is put, a commit more that is pending, one that is shown, and locks that are let go.
-use Rattle.std.proofs.Common.{◌≡◌, ◌∙◌, ℕ, Bool, true, false, ◌||◌, cond, List, [], ◌∷◌, ◌++◌, All, map, Option, Some, None, refl, sym, ap, subst}
+use Rattle.std.proofs.Common.{◌≡◌, ◌∙◌, ℕ, Bool, true, false, ◌||◌, cond, List, [], ◌∷◌, ◌++◌, All, map, Some, refl, sym, ap, subst}
 use Rattle.std.specs.List.{AllByRecursion}
 use Rattle.std.specs.Map.{lookup}
 use Rattle.std.proofs.lemmas.Bool.{false≢true, false_from_ne_true}
-use Rattle.std.proofs.lemmas.Option.{none-some, same_Some}
+use Rattle.std.proofs.lemmas.Option.{same_Some}
 use Rattle.std.proofs.lemmas.List.Elements.{All-nil, All-cons, All-head, All-tail, All-push, All-weaker}
 use Rattle.std.proofs.lemmas.Map.Keys.{IsDistinct-head, IsDistinct-tail}
 use Rattle.rc_base.specs.declared.ids.TxnId.{TxnId}
@@ -19,8 +19,8 @@ use Rattle.lock_laws.proofs.ProtectedGrants.{AreExclusive-released}
 use Rattle.lock_laws.proofs.ProtectedStates.{IsOrdered-folded}
 use Rattle.lock_laws.proofs.ProtectedCalls.{AreProtected-behind_commit, AreProtected-released}
 use Rattle.txn_table.specs.declared.committed.Committed.{Committed}
-use Rattle.order_machine.specs.Machine.{Txn, ops_of}
-use Rattle.history_laws.specs.Texts.{operations_of, state_after, has_commit, AreOnce}
+use Rattle.order_machine.specs.Machine.{Txn}
+use Rattle.history_laws.specs.Texts.{state_after, has_commit}
 use Rattle.history_laws.specs.LockGuards.{PendingCommit, LockGuard}
 use Rattle.history_laws.specs.QuietCalls.{HomeStays}
 use Rattle.history_laws.proofs.QuietSuffixes.{quiet_same_ops, quiet_protected, quiet_asked, quiet_live, quiet_home}

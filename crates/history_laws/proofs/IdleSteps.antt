@@ -1,18 +1,17 @@
 -- Where nothing goes on: after the end of a role, and as long as a replica isn't an active primary.
-use Rattle.std.proofs.Common.{◌≡◌, ◌∙◌, ℕ, Bool, true, false, eqb, List, [], ◌∷◌, set, get_or, Option, Some, None, refl, sym, ap, subst, inl, inr}
+use Rattle.std.proofs.Common.{◌≡◌, ◌∙◌, ℕ, false, eqb, List, [], set, get_or, Some, None, refl, sym, ap, subst, inl, inr}
 use Rattle.std.specs.Map.{lookup}
 use Rattle.std.proofs.lemmas.Bool.{false≢true, cond_both, cases_eq, eq-eqb}
-use Rattle.rc_base.specs.declared.ids.Epoch.{Epoch}
 use Rattle.rc_base.specs.declared.ids.TxnId.{TxnId}
 use Rattle.rc_base.specs.Ids.{is_txn}
 use Rattle.events.proofs.Lists.{at_written}
-use Rattle.order_machine.specs.Machine.{Machine, Replica, Txn, never_opened, replica, put_replica, put_txn, txn_of, grants_of, is_active, ended_at}
-use Rattle.order_machine.specs.Transitions.{new_role, appointing}
-use Rattle.order_machine.proofs.Machines.{ended, known_before}
+use Rattle.order_machine.specs.Machine.{Machine, Replica, Txn, never_opened, replica, put_txn, is_active, ended_at}
+use Rattle.order_machine.specs.Transitions.{new_role}
+use Rattle.order_machine.proofs.Machines.{known_before}
 use Rattle.history_laws.specs.LockGuards.{IdleReplica}
 use Rattle.history_laws.specs.Laws.{after_call, EndedRolesAreIdle, CallsKeepIdle}
 use Rattle.history_laws.proofs.QuietSuffixes.{same_home}
-use Rattle.history_laws.proofs.CallCases.{LiveAt, with_call, CallCases, after_answer}
+use Rattle.history_laws.proofs.CallCases.{with_call, CallCases, after_answer}
 use Rattle.history_laws.proofs.Elsewhere.{Elsewhere, idle_elsewhere, quiet_elsewhere, elsewhere_cases}
 
 -- ---- the end of a role

@@ -10,3 +10,4 @@ pub mod IdleSteps
 pub mod RequestSteps
 pub mod EarlyReleaseRun
 pub mod NumberingSteps
+pub mod EventLines

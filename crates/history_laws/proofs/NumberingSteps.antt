@@ -1,5 +1,5 @@
 -- The names of transactions count on.
-use Rattle.std.proofs.Common.{◌≡◌, ◌∙◌, ℕ, ◌+◌, ◌≤◌, Bool, true, false, cond, List, [], ◌∷◌, ◌++◌, find, Option, Some, None, option_map, refl, sym, ap, subst, le_of_eq, arith}
+use Rattle.std.proofs.Common.{◌≡◌, ◌∙◌, ℕ, ◌+◌, ◌≤◌, Bool, true, false, cond, List, [], ◌∷◌, find, Option, Some, None, option_map, refl, sym, ap, subst, le_of_eq, arith}
 use Rattle.std.specs.Option.{option_map_or}
 use Rattle.std.specs.Map.{lookup}
 use Rattle.std.proofs.lemmas.Option.{none-some, same_Some}
@@ -11,10 +11,10 @@ use Rattle.key_locks.specs.Grants.{released}
 use Rattle.events.specs.Locking.{locks_at, taken}
 use Rattle.events.proofs.Lists.{at_each, at_each_other}
 use Rattle.lock_laws.proofs.ProtectedCalls.{note_of}
-use Rattle.order_machine.specs.Machine.{Machine, Replica, Role, Txn, Appointment, never_opened, empty_machine, replica, put_replica, put_txn, txn_of, grants_of, put_grants, role_of, is_active, ended_at, without_role, closed}
+use Rattle.order_machine.specs.Machine.{Machine, Replica, Role, Txn, Appointment, never_opened, replica, put_replica, put_txn, txn_of, grants_of, put_grants, role_of, is_active, ended_at}
 use Rattle.order_machine.specs.Clients.{next_txn, new_txn, one_more_begun, begun, seen}
-use Rattle.order_machine.specs.Transitions.{going_at, asking_commit, showing, acknowledging}
-use Rattle.order_machine.proofs.Machines.{never_put, ended, known_before}
+use Rattle.order_machine.specs.Transitions.{going_at, asking_commit, acknowledging}
+use Rattle.order_machine.proofs.Machines.{never_put, known_before}
 use Rattle.history_laws.specs.Invariant.Numbering.{RoleNumbering, ReplicaNumbering, Numbering}
 use Rattle.history_laws.specs.Laws.{EmptyIsNumbered, CallsKeepNumbering, ChangesKeepNumbering}
 use Rattle.history_laws.proofs.QuietSuffixes.{same_home}

@@ -1,5 +1,5 @@
 -- The guard at the replica that acts.
-use Rattle.std.proofs.Common.{◌≡◌, ◌∙◌, ℕ, Bool, true, false, cond, length, List, [], ◌∷◌, ◌++◌, append-nil, set, get_or, Option, Some, None, option_map, inl, inr, refl, sym, ap, subst}
+use Rattle.std.proofs.Common.{◌≡◌, ◌∙◌, ℕ, true, false, length, List, [], ◌∷◌, ◌++◌, append-nil, get_or, Option, Some, None, option_map, inl, inr, refl, sym, ap, subst}
 use Rattle.std.specs.List.{IsDistinct}
 use Rattle.std.specs.Option.{option_map_or}
 use Rattle.std.specs.Map.{lookup}
@@ -19,16 +19,16 @@ use Rattle.events.specs.Locking.{Lock, locks_at, taken}
 use Rattle.events.specs.Answers.{live_reply}
 use Rattle.events.specs.Replay.{Replays}
 use Rattle.events.proofs.Lists.{at_each}
-use Rattle.lock_laws.specs.Protected.{AreExclusive, AreProtected}
+use Rattle.lock_laws.specs.Protected.{AreExclusive}
 use Rattle.lock_laws.proofs.ProtectedGrants.{AreExclusive-nil, AreExclusive-taken, AreExclusive-released}
 use Rattle.lock_laws.proofs.ProtectedCalls.{note_of, Replays-from_protected, AreProtected-taken, AreProtected-released, AreProtected-push, IsCallProtected-live}
 use Rattle.txn_table.specs.declared.committed.Committed.{Committed}
 use Rattle.order_machine.specs.Order.{Order, empty_order, state_at}
-use Rattle.order_machine.specs.Machine.{Machine, Replica, Txn, never_opened, replica, put_replica, put_txn, txn_of, grants_of, put_grants, role_of, is_active, is_shown}
+use Rattle.order_machine.specs.Machine.{Machine, Replica, Txn, never_opened, replica, put_replica, put_txn, txn_of, grants_of, put_grants, role_of, is_active}
 use Rattle.order_machine.specs.Clients.{begun, new_txn, one_more_begun, seen}
-use Rattle.order_machine.specs.Transitions.{going_at, asking_commit, showing, acknowledging}
-use Rattle.history_laws.specs.Texts.{state_after, has_commit, IsText}
-use Rattle.history_laws.specs.LockGuards.{PendingCommit, LockGuard, shown_at, ReplicaGuard, IdleReplica, ShownCommits}
+use Rattle.order_machine.specs.Transitions.{asking_commit, showing}
+use Rattle.history_laws.specs.Texts.{state_after, has_commit}
+use Rattle.history_laws.specs.LockGuards.{PendingCommit, LockGuard, shown_at, ReplicaGuard, ShownCommits}
 use Rattle.history_laws.specs.Laws.{after_call, commit_of, CommitsLengthenTexts, IdleIsGuarded, CallsKeepGuards, RequestsArePending, ViewsKeepGuards, AcknowledgementsKeepGuards}
 use Rattle.history_laws.proofs.TextSteps.{state_after-append, IsText-settled, IsText-front, IsText-push}
 use Rattle.history_laws.proofs.CallCases.{LiveAt, live_at, with_call, aborted, CallCases, after_answer}

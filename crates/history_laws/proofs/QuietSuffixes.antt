@@ -1,8 +1,8 @@
 -- Quiet calls change no replay, no operation and nothing that locks protect; and which changes note nothing else.
-use Rattle.std.proofs.Common.{◌≡◌, ◌∙◌, ℕ, Bool, true, false, eqb, cond, List, [], ◌∷◌, ◌++◌, All, Option, Some, None, option_map, MatchBool, append_assoc, append-nil, refl, sym, ap, subst}
+use Rattle.std.proofs.Common.{◌≡◌, ◌∙◌, ℕ, Bool, true, false, eqb, cond, List, [], ◌∷◌, ◌++◌, All, Option, Some, option_map, MatchBool, append_assoc, append-nil, refl, sym, ap, subst}
 use Rattle.std.specs.List.{cons_option}
 use Rattle.std.specs.Map.{lookup}
-use Rattle.std.proofs.lemmas.Bool.{false≢true, cond_both, cond-false, eqb-true, false_from_ne_true}
+use Rattle.std.proofs.lemmas.Bool.{cond_both, cond-false, eqb-true, false_from_ne_true}
 use Rattle.std.proofs.lemmas.Option.{same_Some}
 use Rattle.std.proofs.lemmas.List.Elements.{All-nil, All-cons, All-head, All-tail, All-append, filter_map-append}
 use Rattle.rc_base.specs.declared.ids.TxnId.{TxnId}

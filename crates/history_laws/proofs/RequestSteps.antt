@@ -1,5 +1,5 @@
 -- What is requested is among the commits, between events.
-use Rattle.std.proofs.Common.{◌≡◌, ◌∙◌, ℕ, Bool, true, false, ◌||◌, eqb, cond, List, [], ◌∷◌, ◌++◌, Option, Some, None, refl, sym, ap, subst}
+use Rattle.std.proofs.Common.{◌≡◌, ◌∙◌, ℕ, Bool, true, false, eqb, cond, List, [], ◌∷◌, ◌++◌, Option, Some, refl, sym, ap, subst}
 use Rattle.std.specs.Option.{option_map_or}
 use Rattle.std.specs.Map.{lookup}
 use Rattle.std.proofs.lemmas.Bool.{false≢true, cond_both, or_left, or_right}
@@ -9,18 +9,15 @@ use Rattle.rc_base.specs.declared.ids.Epoch.{Epoch}
 use Rattle.rc_base.specs.declared.ids.TxnId.{TxnId}
 use Rattle.rc_base.specs.Ids.{is_txn}
 use Rattle.rc_base.proofs.SameIds.{is_txn-true, is_txn_same}
-use Rattle.events.specs.Calls.{CallRecord}
 use Rattle.txn_table.specs.declared.committed.Committed.{Committed}
-use Rattle.order_machine.specs.Machine.{Machine, Txn, put_txn, txn_of, ended_at, appointment_of}
+use Rattle.order_machine.specs.Machine.{Machine, Txn, put_txn, ended_at, appointment_of}
 use Rattle.order_machine.specs.Clients.{new_txn}
-use Rattle.order_machine.specs.Transitions.{going_at, asking_commit}
 use Rattle.order_machine.proofs.Machines.{ended, known_before}
 use Rattle.history_laws.specs.Texts.{has_commit}
 use Rattle.history_laws.specs.LockGuards.{ContainsRequests}
 use Rattle.history_laws.specs.Laws.{commit_of, CallsKeepRequests, RequestsAreContained, RoleEndsKeepRequests, NothingIsRequestedBefore}
-use Rattle.history_laws.specs.Invariant.Numbering.{Numbering}
 use Rattle.history_laws.proofs.QuietSuffixes.{same_home}
-use Rattle.history_laws.proofs.CallCases.{LiveAt, live_at, with_call, aborted, CallCases, after_answer}
+use Rattle.history_laws.proofs.CallCases.{live_at, with_call, aborted, CallCases, after_answer}
 use Rattle.history_laws.proofs.SettledSteps.{put_there}
 
 -- ---- one transaction is put
@@ -75,8 +72,7 @@ pub requests_are_contained : RequestsAreContained
 requests_are_contained m r t x q e commits going all =
     let at = live_at m r t x going in
     let done : Txn = record x { live = false; asked = true } in
-    let more : ContainsRequests m.txns q e (commits ++ commit_of t x ∷ []) = λ u y known home epoch asked. more_commits commits (commit_of t x ∷ []) u (all u y known home epoch asked) in
-    (
+    let more : ContainsRequests m.txns q e (commits ++ commit_of t x ∷ []) = λ u y known home epoch asked. more_commits commits (commit_of t x ∷ []) u (all u y known home epoch asked) in (
       subst (λ (o : Option Txn). ContainsRequests (requested m t o).txns q e (commits ++ commit_of t x ∷ [])) (sym going)
           (requests_put m.txns q e (commits ++ commit_of t x ∷ []) t done (λ home epoch asked. last_commit commits (commit_of t x)) more),
       λ apart. subst (λ (o : Option Txn). ContainsRequests (requested m t o).txns q e commits) (sym going)

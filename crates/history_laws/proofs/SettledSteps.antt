@@ -1,5 +1,5 @@
 -- What each change of the machine leaves of the transactions that were requested and have ended: so texts stay texts.
-use Rattle.std.proofs.Common.{◌≡◌, ◌∙◌, ℕ, Bool, true, false, cond, List, [], ◌∷◌, ◌++◌, Option, Some, None, refl, sym, ap, subst}
+use Rattle.std.proofs.Common.{◌≡◌, ◌∙◌, ℕ, Bool, true, false, cond, List, ◌∷◌, Option, Some, None, refl, sym, ap, subst}
 use Rattle.std.specs.Option.{option_map_or}
 use Rattle.std.specs.Map.{lookup}
 use Rattle.std.proofs.lemmas.Bool.{false≢true}
@@ -7,17 +7,15 @@ use Rattle.std.proofs.lemmas.Option.{none-some, same_Some}
 use Rattle.rc_base.specs.declared.ids.TxnId.{TxnId}
 use Rattle.rc_base.specs.Ids.{is_txn}
 use Rattle.rc_base.proofs.SameIds.{is_txn_same}
-use Rattle.coll_model.specs.Effect.{State}
 use Rattle.events.specs.Calls.{CallRecord}
-use Rattle.order_machine.specs.Machine.{Machine, Txn, put_txn, txn_of}
+use Rattle.order_machine.specs.Machine.{Machine, Txn, put_txn}
 use Rattle.order_machine.specs.Clients.{new_txn}
 use Rattle.order_machine.specs.Transitions.{going_at, asking_commit}
-use Rattle.txn_table.specs.declared.committed.Committed.{Committed}
 use Rattle.history_laws.specs.QuietCalls.{QuietCall, QuietSuffix, SettledStay}
 use Rattle.history_laws.specs.Laws.{BeginningsAreTexts, CallsKeepTexts, RequestsKeepTexts, RoleEndsKeepTexts}
 use Rattle.history_laws.proofs.QuietSuffixes.{QuietSuffix-one, SettledStay-put, SettledStay-itself, SettledStay-trans, SettledStay-ended}
 use Rattle.history_laws.proofs.TextSteps.{IsText-settled, IsText-front}
-use Rattle.history_laws.proofs.CallCases.{LiveAt, live_at, with_call, aborted, CallCases, after_answer}
+use Rattle.history_laws.proofs.CallCases.{live_at, with_call, aborted, CallCases, after_answer}
 
 -- the last one that was put is found
 pub put_there : (txns : List (TxnId × Txn)) (t : TxnId) (x : Txn) → lookup (is_txn t) ((t, x) ∷ txns) ≡ Some x
@@ -29,7 +27,7 @@ settled_quiet txns t x c known quiet =
     SettledStay-put txns t (with_call x c) (λ y there asked ended. subst (λ (w : Txn). QuietSuffix w (with_call x c)) (same_Some x y (sym known ∙ there)) (QuietSuffix-one x c quiet))
 
 -- a live one changes
-settled_live : (txns : List (TxnId × Txn)) (t : TxnId) (x new : Txn) → lookup (is_txn t) txns ≡ Some x → x.live ≡ true → SettledStay txns ((t, new) ∷ txns)
+pub settled_live : (txns : List (TxnId × Txn)) (t : TxnId) (x new : Txn) → lookup (is_txn t) txns ≡ Some x → x.live ≡ true → SettledStay txns ((t, new) ∷ txns)
 settled_live txns t x new known live =
     SettledStay-put txns t new (λ y there asked ended. absurd (false≢true (sym ended ∙ (ap (λ (w : Txn). w.live) (sym (same_Some x y (sym known ∙ there))) ∙ live))))
 

@@ -1,6 +1,6 @@
 -- The state that a replica shows, and the row of the order for a text's next commit.
-use Rattle.std.proofs.Common.{◌≡◌, ◌∙◌, ℕ, ◌+◌, ◌-◌, Bool, true, false, ◌||◌, List, [], ◌∷◌, ◌++◌, map, take, length, flat_map, Option, Some, None, inl, inr, refl, sym, ap, subst, arith}
-use Rattle.std.specs.List.{list_any, AllByRecursion}
+use Rattle.std.proofs.Common.{◌≡◌, ◌∙◌, ℕ, ◌+◌, ◌-◌, true, false, List, [], ◌∷◌, ◌++◌, map, length, flat_map, Some, inl, inr, refl, sym, ap, subst, arith}
+use Rattle.std.specs.List.{AllByRecursion}
 use Rattle.std.specs.Map.{lookup}
 use Rattle.std.proofs.lemmas.Bool.{false≢true, or_cases}
 use Rattle.std.proofs.lemmas.List.{take_all}
@@ -16,7 +16,7 @@ use Rattle.lock_laws.specs.OrderedStates.{IsOrdered}
 use Rattle.lock_laws.proofs.ProtectedStates.{IsOrdered-folded}
 use Rattle.txn_table.specs.declared.committed.Committed.{Committed}
 use Rattle.order_machine.specs.Order.{Order, Entry, length_of, first_of, state_at, holds}
-use Rattle.order_machine.specs.Machine.{Machine, Txn, order_of, replica, is_shown}
+use Rattle.order_machine.specs.Machine.{Machine, Txn, order_of, is_shown}
 use Rattle.history_laws.specs.Texts.{operations_of, state_after, has_commit, AreOnce, SerialCommits}
 use Rattle.history_laws.specs.LockGuards.{shown_at, entry_of, OrderCommits, ShownCommits}
 use Rattle.history_laws.specs.Laws.{NextMayBeOrdered, ShownIsOrdered}

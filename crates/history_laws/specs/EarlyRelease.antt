@@ -1,6 +1,5 @@
 -- Why locks last until their commit is shown: a run of one replica in which they are let go as the commit is logged.
-use Rattle.std.specs.Prelude.{◌≡◌, Bool, true, false, List, [], ◌∷◌, replicate, Some, None}
-use Rattle.rc_base.specs.declared.ids.Epoch.{Epoch}
+use Rattle.std.specs.Prelude.{◌≡◌, true, false, List, [], ◌∷◌, replicate, Some}
 use Rattle.rc_base.specs.declared.ids.TxnId.{TxnId}
 use Rattle.coll_model.specs.declared.op.Kind.TheVariants as kinds
 use Rattle.coll_model.specs.declared.op.Op.TheVariants as ops
@@ -15,7 +14,7 @@ use Rattle.events.specs.Calls.{CallRecord}
 use Rattle.events.specs.Answers.{plain}
 use Rattle.txn_table.specs.declared.committed.Committed.{Committed}
 use Rattle.order_machine.specs.Order.{empty_order}
-use Rattle.order_machine.specs.Machine.{Machine, Replica, Txn, never_opened}
+use Rattle.order_machine.specs.Machine.{Machine, Replica, never_opened}
 use Rattle.order_machine.specs.Clients.{answer}
 use Rattle.order_machine.specs.Transitions.{first_epoch, asking_commit}
 use Rattle.history_laws.specs.Texts.{IsText}

@@ -1,5 +1,5 @@
 -- The laws of texts and guards.
-use Rattle.std.specs.Prelude.{◌≡◌, ◌⊎◌, ℕ, true, false, List, [], ◌∷◌, ◌++◌, Some, None}
+use Rattle.std.specs.Prelude.{◌≡◌, ℕ, true, false, List, [], ◌∷◌, ◌++◌, Some, None}
 use Rattle.rc_base.specs.declared.ids.Epoch.{Epoch}
 use Rattle.rc_base.specs.declared.ids.TxnId.{TxnId}
 use Rattle.coll_model.specs.Effect.{State}
@@ -9,10 +9,11 @@ use Rattle.events.specs.declared.answer.Reply.{Reply}
 use Rattle.lock_laws.specs.OrderedStates.{IsOrdered}
 use Rattle.txn_table.specs.declared.committed.Committed.{Committed}
 use Rattle.order_machine.specs.declared.observation.Observation.{Observation}
-use Rattle.order_machine.specs.Machine.{Machine, Txn, empty_machine, replica, order_of, is_active, is_shown, appointment_of, ops_of, ended_at, without_role, closed}
+use Rattle.order_machine.specs.Machine.{Machine, Txn, empty_machine, order_of, is_active, is_shown, appointment_of, ops_of, without_role, closed}
 use Rattle.order_machine.specs.Clients.{answer, answered_at}
-use Rattle.order_machine.specs.Transitions.{Position, MayOrder, going_at, asking, asking_commit, showing, acknowledging, appointing}
-use Rattle.history_laws.specs.Texts.{state_after, has_commit, IsText}
+use Rattle.order_machine.specs.Transitions.{Position, MayOrder, opened, going_at, asking, asking_commit, showing, acknowledging, appointing}
+use Rattle.order_machine.specs.Legal.{Lines, behind}
+use Rattle.history_laws.specs.Texts.{IsText}
 use Rattle.history_laws.specs.LockGuards.{ContainsRequests, shown_at, ReplicaGuard, IdleReplica, OrderCommits, ShownCommits}
 use Rattle.history_laws.specs.Invariant.Numbering.{Numbering}
 
@@ -46,6 +47,12 @@ RequestsKeepTexts = (m : Machine) (r : ℕ) (t : TxnId) (start : State) (commits
 -- and the end of a role
 abbrev pub RoleEndsKeepTexts : Type 0
 RoleEndsKeepTexts = (start : State) (commits : List Committed) → EndsRole (λ r m now. IsText m.txns start commits → IsText now.txns start commits)
+
+-- Whatever lines an event has so far, each where it may come, leave a text one: in the middle of the event and after it.
+abbrev pub EventsKeepTexts : Type 0
+EventsKeepTexts =
+    (m : Machine) (event : Event) (lines : List Observation) → Numbering m → Lines (opened m event) lines → (start : State) (commits : List Committed) → IsText m.txns start commits
+    → IsText (behind (opened m event) lines).machine.txns start commits
 
 -- As a commit is requested at r, whose log commits what r shows and then what is pending there, that and the commit are a text. It is fixed then for good: no later
 -- law of texts asks for the role, the grants or the locks.

@@ -3,7 +3,7 @@
 #![tactic(auto)]
 
 ghost use Rattle.history_laws.specs.EarlyRelease.{EarlyReleaseIsRefused};
-ghost use Rattle.history_laws.specs.Laws.{AcknowledgementsKeepGuards, AcknowledgementsKeepOthers, BeginningsAreTexts, CallsKeepGuards, CallsKeepIdle, CallsKeepNumbering, CallsKeepRequests, CallsKeepTexts, ChangesKeepNumbering, CommitsLengthenTexts, EmptyIsNumbered, EndedRolesAreIdle, IdleIsGuarded, NextMayBeOrdered, NothingIsRequestedBefore, RequestsAreContained, RequestsArePending, RequestsKeepOthers, RequestsKeepTexts, RoleEndsKeepOthers, RoleEndsKeepRequests, RoleEndsKeepTexts, ShownIsOrdered, ViewsKeepGuards, ViewsKeepOthers};
+ghost use Rattle.history_laws.specs.Laws.{AcknowledgementsKeepGuards, AcknowledgementsKeepOthers, BeginningsAreTexts, CallsKeepGuards, CallsKeepIdle, CallsKeepNumbering, CallsKeepRequests, CallsKeepTexts, ChangesKeepNumbering, CommitsLengthenTexts, EmptyIsNumbered, EndedRolesAreIdle, EventsKeepTexts, IdleIsGuarded, NextMayBeOrdered, NothingIsRequestedBefore, RequestsAreContained, RequestsArePending, RequestsKeepOthers, RequestsKeepTexts, RoleEndsKeepOthers, RoleEndsKeepRequests, RoleEndsKeepTexts, ShownIsOrdered, ViewsKeepGuards, ViewsKeepOthers};
 
 /// A beginning of a text is a text.
 pub fn beginnings_are_texts()
@@ -23,6 +23,11 @@ pub fn requests_keep_texts()
 /// The end of a role leaves each text one.
 pub fn role_ends_keep_texts()
     ensures { RoleEndsKeepTexts }
+{}
+
+/// So do the lines of each event, all of them or the first few: calls, boots, surveys, appointments, stops and faults.
+pub fn events_keep_texts()
+    ensures { EventsKeepTexts }
 {}
 
 /// What a replica shows and what is pending there are a text with the next commit that is requested there: it replays

@@ -1,7 +1,6 @@
 -- What the machine keeps of the names of transactions, so that a begin gives a new one.
-use Rattle.std.specs.Prelude.{◌≡◌, ℕ, ◌≤◌, false, List, Option, None, Some, find}
+use Rattle.std.specs.Prelude.{◌≡◌, ℕ, ◌≤◌, false, List, None, Some, find}
 use Rattle.std.specs.Map.{lookup}
-use Rattle.rc_base.specs.declared.ids.Epoch.{Epoch}
 use Rattle.rc_base.specs.declared.ids.TxnId.{TxnId}
 use Rattle.rc_base.specs.Ids.{is_epoch, is_txn}
 use Rattle.order_machine.specs.Machine.{Machine, Replica, Role, Txn, Appointment, replica, txn_of, appointment_of}
