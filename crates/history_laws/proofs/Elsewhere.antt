@@ -1,4 +1,4 @@
--- What a change at one replica leaves at another, and that a guard and the want of one stay by that.
+-- What a change at one replica leaves at another: its guard, and that nothing goes on there.
 use Rattle.std.proofs.Common.{◌≡◌, ◌∙◌, ℕ, true, false, List, [], ◌∷◌, set, get_or, Option, Some, None, option_map, refl, sym, ap, subst}
 use Rattle.std.specs.Option.{option_map_or}
 use Rattle.std.proofs.lemmas.Option.{none-some, same_Some}

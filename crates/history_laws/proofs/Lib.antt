@@ -11,3 +11,4 @@ pub mod RequestSteps
 pub mod EarlyReleaseRun
 pub mod NumberingSteps
 pub mod EventLines
+pub mod LineGuards

@@ -1,7 +1,8 @@
 -- The laws of texts and guards.
-use Rattle.std.specs.Prelude.{◌≡◌, ℕ, true, false, List, [], ◌∷◌, ◌++◌, Some, None}
+use Rattle.std.specs.Prelude.{◌≡◌, ℕ, true, false, List, [], ◌∷◌, ◌++◌, Some, None, ◌≤◌}
 use Rattle.rc_base.specs.declared.ids.Epoch.{Epoch}
 use Rattle.rc_base.specs.declared.ids.TxnId.{TxnId}
+use Rattle.coll_model.specs.declared.op.Op.{Op}
 use Rattle.coll_model.specs.Effect.{State}
 use Rattle.events.specs.declared.call.Call.{Call}
 use Rattle.events.specs.declared.event.Event.{Event}
@@ -9,9 +10,10 @@ use Rattle.events.specs.declared.answer.Reply.{Reply}
 use Rattle.lock_laws.specs.OrderedStates.{IsOrdered}
 use Rattle.txn_table.specs.declared.committed.Committed.{Committed}
 use Rattle.order_machine.specs.declared.observation.Observation.{Observation}
-use Rattle.order_machine.specs.Machine.{Machine, Txn, empty_machine, order_of, is_active, is_shown, appointment_of, ops_of, without_role, closed}
+use Rattle.order_machine.specs.Order.{length_of}
+use Rattle.order_machine.specs.Machine.{Machine, Txn, empty_machine, order_of, is_active, is_shown, appointment_of, ops_of, without_role, closed, replica}
 use Rattle.order_machine.specs.Clients.{answer, answered_at}
-use Rattle.order_machine.specs.Transitions.{Position, MayOrder, opened, going_at, asking, asking_commit, showing, acknowledging, appointing}
+use Rattle.order_machine.specs.Transitions.{Position, MayOrder, opened, going_at, asking, asking_commit, showing, acknowledging, appointing, ordering, now_active}
 use Rattle.order_machine.specs.Legal.{Lines, behind}
 use Rattle.history_laws.specs.Texts.{IsText}
 use Rattle.history_laws.specs.LockGuards.{ContainsRequests, shown_at, ReplicaGuard, IdleReplica, OrderCommits, ShownCommits}
@@ -116,6 +118,15 @@ AcknowledgementsKeepGuards =
 -- it keeps the guard at every other replica
 abbrev pub AcknowledgementsKeepOthers : Type 0
 AcknowledgementsKeepOthers = (m : Machine) (r q : ℕ) (t : TxnId) (pending : List Committed) → (q ≡ r → ⊥) → ReplicaGuard m q pending → ReplicaGuard (acknowledging m r t) q pending
+
+-- the order may grow beyond what a replica shows: that keeps every guard
+abbrev pub OrdersKeepGuards : Type 0
+OrdersKeepGuards =
+    (m : Machine) (r : ℕ) (t : TxnId) (ops : List Op) (q : ℕ) (pending : List Committed) → (replica m q).show ≤ length_of (order_of m q) → ReplicaGuard m q pending → ReplicaGuard (ordering m r t ops) q pending
+
+-- a primary that becomes active keeps every guard
+abbrev pub ActiveKeepsGuards : Type 0
+ActiveKeepsGuards = (m : Machine) (r q : ℕ) (pending : List Committed) → ReplicaGuard m q pending → ReplicaGuard (now_active m r) q pending
 
 -- the end of a role keeps the guard at every other replica
 abbrev pub RoleEndsKeepOthers : Type 0

@@ -3,7 +3,7 @@
 #![tactic(auto)]
 
 ghost use Rattle.history_laws.specs.EarlyRelease.{EarlyReleaseIsRefused};
-ghost use Rattle.history_laws.specs.Laws.{AcknowledgementsKeepGuards, AcknowledgementsKeepOthers, BeginningsAreTexts, CallsKeepGuards, CallsKeepIdle, CallsKeepNumbering, CallsKeepRequests, CallsKeepTexts, ChangesKeepNumbering, CommitsLengthenTexts, EmptyIsNumbered, EndedRolesAreIdle, EventsKeepTexts, IdleIsGuarded, NextMayBeOrdered, NothingIsRequestedBefore, RequestsAreContained, RequestsArePending, RequestsKeepOthers, RequestsKeepTexts, RoleEndsKeepOthers, RoleEndsKeepRequests, RoleEndsKeepTexts, ShownIsOrdered, ViewsKeepGuards, ViewsKeepOthers};
+ghost use Rattle.history_laws.specs.Laws.{AcknowledgementsKeepGuards, AcknowledgementsKeepOthers, ActiveKeepsGuards, BeginningsAreTexts, CallsKeepGuards, CallsKeepIdle, CallsKeepNumbering, CallsKeepRequests, CallsKeepTexts, ChangesKeepNumbering, CommitsLengthenTexts, EmptyIsNumbered, EndedRolesAreIdle, EventsKeepTexts, IdleIsGuarded, NextMayBeOrdered, NothingIsRequestedBefore, OrdersKeepGuards, RequestsAreContained, RequestsArePending, RequestsKeepOthers, RequestsKeepTexts, RoleEndsKeepOthers, RoleEndsKeepRequests, RoleEndsKeepTexts, ShownIsOrdered, ViewsKeepGuards, ViewsKeepOthers};
 
 /// A beginning of a text is a text.
 pub fn beginnings_are_texts()
@@ -142,4 +142,14 @@ pub fn calls_keep_numbering()
 /// They count on over requests, views, acknowledgements and ends of roles.
 pub fn changes_keep_numbering()
     ensures { ChangesKeepNumbering }
+{}
+
+/// The order grows beyond what is shown, and every guard stays.
+pub fn orders_keep_guards()
+    ensures { OrdersKeepGuards }
+{}
+
+/// A primary becomes active, and every guard stays.
+pub fn active_keeps_guards()
+    ensures { ActiveKeepsGuards }
 {}
