@@ -1,0 +1,14 @@
+pub mod QuietSuffixes
+pub mod TextSteps
+pub mod CallCases
+pub mod GuardSteps
+pub mod SettledSteps
+pub mod ShownStates
+pub mod Elsewhere
+pub mod OwnGuards
+pub mod IdleSteps
+pub mod RequestSteps
+pub mod EarlyReleaseRun
+pub mod NumberingSteps
+pub mod EventLines
+pub mod LineGuards

@@ -1,0 +1,5 @@
+use Rattle.history_laws.proofs.NumberingSteps as steps
+use Rattle.history_laws.proofs.changes_keep_numbering.Goals as goal
+
+pub returns : goal.returns
+returns c = steps.changes_keep_numbering

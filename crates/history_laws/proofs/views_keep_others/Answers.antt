@@ -1,0 +1,5 @@
+use Rattle.history_laws.proofs.Elsewhere as steps
+use Rattle.history_laws.proofs.views_keep_others.Goals as goal
+
+pub returns : goal.returns
+returns c = steps.views_keep_others

@@ -1,0 +1,2 @@
+-- What only the proofs carry from event to event.
+pub mod Numbering
