@@ -261,6 +261,7 @@ pub record MayOrder (p : Position) (t : TxnId) (ops : List Op) : Type 0 where
 pub record MayShow (p : Position) (r n : ℕ) : Type 0 where
   pub within : n ≤ length_of (order_of p.machine r)
   pub all_that_grew : p.growing ≡ true → n ≡ length_of (order_of p.machine r)
+  pub grew_here : p.growing ≡ true → r ≡ p.primary
   pub more : p.opening ≡ None → (replica p.machine r).show < n
   pub primary : p.opening ≡ None → is_some (role_of p.machine r) ≡ true
   pub acts : is_actor p.primary p.event r ≡ true
@@ -361,6 +362,7 @@ MayFailFirst p _ r = ⊥
 
 -- one in the second step, behind the answer: a primary that became active or showed more logs that
 pub record MayFailSecond (p : Position) (r : ℕ) : Type 0 where
+  pub acts : is_actor p.primary p.event r ≡ true
   pub rose : list_any (λ q. q == r) p.rose ≡ true
   pub answered : p.answered ≡ true
   pub nothing_due : (t : TxnId) → is_pending p.machine r t ≡ true → is_shown p.machine r t ≡ false

@@ -105,6 +105,7 @@ view_may s shown all = record {
   row = record {
     within = omega (arith, length-append s.entries (entry_of s.t s.g ∷ []));
     all_that_grew = λ _. omega (arith, length-append s.entries (entry_of s.t s.g ∷ []));
+    grew_here = λ _. refl;
     more = λ _. omega arith;
     primary = λ _. refl;
     acts = refl;
@@ -341,7 +342,7 @@ commit_faults front new shown contents m t g h ruled is c =
       in_rank = refl;
       next = refl;
       goes_on = refl;
-      row = inr (record { rose = refl; answered = rw (is_txn_same t) refl; nothing_due = λ u p. holds_then.not_shown 0 u p; is_up = refl });
+      row = inr (record { acts = refl; rose = refl; answered = rw (is_txn_same t) refl; nothing_due = λ u p. holds_then.not_shown 0 u p; is_up = refl });
     } in
     let P : Machine → Type 0 = λ at. IsWhole at (Client 0 (Commit t)) (lines_of t g shown ++ says.Fault 0 ∷ []) × IsShutFrom h.course (with_entry h.entries t g) (moved at (Client 0 (Commit t)) (lines_of t g shown ++ says.Fault 0 ∷ [])) in
     subst P (sym h.is) (served_from n (Client 0 (Commit t)) (lines_of t g shown ++ says.Fault 0 ∷ []) (start_of s) (IsShutFrom h.course (with_entry h.entries t g)) (running_unrefused front shown contents m h (Commit t)) (asked_commit front shown contents m h t g k is)

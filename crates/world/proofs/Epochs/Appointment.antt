@@ -179,7 +179,7 @@ appoint_faults_behind last r images m e order h counted =
     let is_lines : all_lines order r ≡ lines = ap (λ ls. ls ++ says.Done ∷ []) (lines_are last r images m e order h counted) in
     let s : Starts (opened m event) lines n = subst (λ (p : Position). Starts p lines n) (sym (opened_there last r images m e h)) (starts_there last r images m e h) in
     let serves = subst (λ ls. IsWhole m event ls × (moved m event ls ≡ n)) is_lines (appoint_serves last r images m e order h counted) in
-    let done = fault_behind m event lines tt tt h.unrefused serves.0 s.rose s.answered (subst (λ (k : Machine). (replica k 0).up ≡ true) (sym s.is) refl) s.unfaulted
+    let done = fault_behind m event lines tt tt refl h.unrefused serves.0 s.rose s.answered (subst (λ (k : Machine). (replica k 0).up ≡ true) (sym s.is) refl) s.unfaulted
     (subst (λ (k : Machine). HoldsBehind (closed k 0)) (sym s.is) (holds_without_role (entries_now h) h.rests.rests.acknowledged (shut (course_now h) (length (entries_now h))) (ended_at 0 h.rests.rests.txns) (course_now h) refl)) in
     subst (λ ls. IsWhole m event (ls ++ says.Fault 0 ∷ []) × (moved m event (ls ++ says.Fault 0 ∷ []) ≡ standing (entries_now h) h.rests.rests.acknowledged (shut (course_now h) (length (entries_now h))) (ended_at 0 h.rests.rests.txns) (course_now h))) (sym is_lines)
     (done.0, done.1 ∙ ap (λ (k : Machine). closed k 0) serves.1)

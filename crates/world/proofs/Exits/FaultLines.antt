@@ -17,7 +17,7 @@ use Rattle.order_machine.specs.Machine.{Machine, Txn, replica, closed, ended_at,
 use Rattle.key_locks.specs.Grants.{Grant, released}
 use Rattle.events.specs.Locking.{locks_at, taken}
 use Rattle.order_machine.specs.Clients.{answer, seen}
-use Rattle.order_machine.specs.Transitions.{Position, HoldsBehind, IsComplete, May, refusal, opened, at_start, asking, asking_locks, going_at, after, showing, logs, failed, is_boot, has_answer, with_first_role, new_role, first_epoch}
+use Rattle.order_machine.specs.Transitions.{event_primary, is_actor, Position, HoldsBehind, IsComplete, May, refusal, opened, at_start, asking, asking_locks, going_at, after, showing, logs, failed, is_boot, has_answer, with_first_role, new_role, first_epoch}
 use Rattle.order_machine.specs.Legal.{Lines, behind, IsServed, IsWhole, moved}
 use Rattle.events.proofs.Lists.{at_written}
 use Rattle.world.specs.Standing.{Course, serving, shut, standing}
@@ -86,7 +86,8 @@ Lines_more p [] more h then = then
 Lines_more p (o ∷ lines) more h then = (h.0, Lines_more (after p o) lines more h.1 then)
 
 -- a line changes neither the event nor the bound on ranks
-pub record IsOf (event : Event) (p : Position) : Type 0 where
+pub record IsOf (event : Event) (primary : ℕ) (p : Position) : Type 0 where
+  pub primary_same : p.primary ≡ primary
   pub same : p.event ≡ event
   pub rank : p.rank ≤ 9
 
@@ -94,49 +95,50 @@ either : {A : Type 0} (P : A → Type 0) (b : Bool) (x y : A) → P x → P y �
 either P true x y p q = p
 either P false x y p q = q
 
-of_after : (event : Event) (p : Position) (o : Observation) → IsOf event p → IsOf event (after p o)
-of_after event p (says.Up r) h = record { same = h.same; rank = omega arith }
-of_after event p (says.Order t ops) h = record { same = h.same; rank = omega arith }
-of_after event p (says.View r n) h = record {
+of_after : (event : Event) (primary : ℕ) (p : Position) (o : Observation) → IsOf event primary p → IsOf event primary (after p o)
+of_after event primary p (says.Up r) h = record { primary_same = h.primary_same; same = h.same; rank = omega arith }
+of_after event primary p (says.Order t ops) h = record { primary_same = h.primary_same; same = h.same; rank = omega arith }
+of_after event primary p (says.View r n) h = record {
+  primary_same = either (λ q. q.primary ≡ primary) (is_some p.opening) (record p { machine = with_first_role (showing p.machine r n) p.event p.mounts; opening = None }) (record p { machine = showing p.machine r n; growing = false; rose = r ∷ p.rose }) h.primary_same h.primary_same;
   same = either (λ q. q.event ≡ event) (is_some p.opening) (record p { machine = with_first_role (showing p.machine r n) p.event p.mounts; opening = None }) (record p { machine = showing p.machine r n; growing = false; rose = r ∷ p.rose }) h.same h.same;
   rank = either (λ n. n ≤ 9) (is_some p.opening) 0 3 (omega arith) (omega arith);
 }
-of_after event p (says.Active r) h = record { same = h.same; rank = omega arith }
-of_after event p (says.Committed t) h = record { same = h.same; rank = omega arith }
-of_after event p (says.Fault r) h = record { same = h.same; rank = either (λ n. n ≤ 9) (length p.mounts == 0) 9 0 (omega arith) (omega arith) }
-of_after event p (says.State r n) h = record { same = h.same; rank = omega arith }
-of_after event p (says.Rows words) h = record { same = h.same; rank = omega arith }
-of_after event p (says.Refused part) h = record { same = h.same; rank = omega arith }
-of_after event p says.IgnoredUp h = record { same = h.same; rank = omega arith }
-of_after event p (says.IgnoredOldEpoch f e) h = record { same = h.same; rank = omega arith }
-of_after event p (says.Progress r e l) h = record { same = h.same; rank = omega arith }
-of_after event p (says.Txn t) h = record { same = h.same; rank = omega arith }
-of_after event p says.Done h = record { same = h.same; rank = omega arith }
-of_after event p (says.Down q) h = record { same = h.same; rank = omega arith }
-of_after event p (says.NotActive q) h = record { same = h.same; rank = omega arith }
-of_after event p (says.Ended t) h = record { same = h.same; rank = omega arith }
-of_after event p (says.Locked t) h = record { same = h.same; rank = omega arith }
-of_after event p says.True h = record { same = h.same; rank = omega arith }
-of_after event p says.False h = record { same = h.same; rank = omega arith }
-of_after event p (says.Value value) h = record { same = h.same; rank = omega arith }
-of_after event p says.Missing h = record { same = h.same; rank = omega arith }
-of_after event p says.Absent h = record { same = h.same; rank = omega arith }
-of_after event p says.WrongKind h = record { same = h.same; rank = omega arith }
+of_after event primary p (says.Active r) h = record { primary_same = h.primary_same; same = h.same; rank = omega arith }
+of_after event primary p (says.Committed t) h = record { primary_same = h.primary_same; same = h.same; rank = omega arith }
+of_after event primary p (says.Fault r) h = record { primary_same = h.primary_same; same = h.same; rank = either (λ n. n ≤ 9) (length p.mounts == 0) 9 0 (omega arith) (omega arith) }
+of_after event primary p (says.State r n) h = record { primary_same = h.primary_same; same = h.same; rank = omega arith }
+of_after event primary p (says.Rows words) h = record { primary_same = h.primary_same; same = h.same; rank = omega arith }
+of_after event primary p (says.Refused part) h = record { primary_same = h.primary_same; same = h.same; rank = omega arith }
+of_after event primary p says.IgnoredUp h = record { primary_same = h.primary_same; same = h.same; rank = omega arith }
+of_after event primary p (says.IgnoredOldEpoch f e) h = record { primary_same = h.primary_same; same = h.same; rank = omega arith }
+of_after event primary p (says.Progress r e l) h = record { primary_same = h.primary_same; same = h.same; rank = omega arith }
+of_after event primary p (says.Txn t) h = record { primary_same = h.primary_same; same = h.same; rank = omega arith }
+of_after event primary p says.Done h = record { primary_same = h.primary_same; same = h.same; rank = omega arith }
+of_after event primary p (says.Down q) h = record { primary_same = h.primary_same; same = h.same; rank = omega arith }
+of_after event primary p (says.NotActive q) h = record { primary_same = h.primary_same; same = h.same; rank = omega arith }
+of_after event primary p (says.Ended t) h = record { primary_same = h.primary_same; same = h.same; rank = omega arith }
+of_after event primary p (says.Locked t) h = record { primary_same = h.primary_same; same = h.same; rank = omega arith }
+of_after event primary p says.True h = record { primary_same = h.primary_same; same = h.same; rank = omega arith }
+of_after event primary p says.False h = record { primary_same = h.primary_same; same = h.same; rank = omega arith }
+of_after event primary p (says.Value value) h = record { primary_same = h.primary_same; same = h.same; rank = omega arith }
+of_after event primary p says.Missing h = record { primary_same = h.primary_same; same = h.same; rank = omega arith }
+of_after event primary p says.Absent h = record { primary_same = h.primary_same; same = h.same; rank = omega arith }
+of_after event primary p says.WrongKind h = record { primary_same = h.primary_same; same = h.same; rank = omega arith }
 
-of_behind : (event : Event) (p : Position) (lines : List Observation) → IsOf event p → IsOf event (behind p lines)
-of_behind event p [] h = h
-of_behind event p (o ∷ lines) h = of_behind event (after p o) lines (of_after event p o h)
+of_behind : (event : Event) (primary : ℕ) (p : Position) (lines : List Observation) → IsOf event primary p → IsOf event primary (behind p lines)
+of_behind event primary p [] h = h
+of_behind event primary p (o ∷ lines) h = of_behind event primary (after p o) lines (of_after event primary p o h)
 
-of_opened : (m : Machine) (event : Event) → IsOf event (opened m event)
-of_opened m (Boot p members) = record { same = refl; rank = omega arith }
-of_opened m (Client r call) = record { same = refl; rank = omega arith }
-of_opened m (Arm r calls) = record { same = refl; rank = omega arith }
-of_opened m (Crash r pick) = record { same = refl; rank = omega arith }
-of_opened m (Reboot r) = record { same = refl; rank = omega arith }
-of_opened m (Inspect r) = record { same = refl; rank = omega arith }
-of_opened m (Survey r e) = record { same = refl; rank = omega arith }
-of_opened m (Appoint e p members) = record { same = refl; rank = omega arith }
-of_opened m (Activate e) = record { same = refl; rank = omega arith }
+of_opened : (m : Machine) (event : Event) → IsOf event (event_primary m event) (opened m event)
+of_opened m (Boot p members) = record { primary_same = refl; same = refl; rank = omega arith }
+of_opened m (Client r call) = record { primary_same = refl; same = refl; rank = omega arith }
+of_opened m (Arm r calls) = record { primary_same = refl; same = refl; rank = omega arith }
+of_opened m (Crash r pick) = record { primary_same = refl; same = refl; rank = omega arith }
+of_opened m (Reboot r) = record { primary_same = refl; same = refl; rank = omega arith }
+of_opened m (Inspect r) = record { primary_same = refl; same = refl; rank = omega arith }
+of_opened m (Survey r e) = record { primary_same = refl; same = refl; rank = omega arith }
+of_opened m (Appoint e p members) = record { primary_same = refl; same = refl; rank = omega arith }
+of_opened m (Activate e) = record { primary_same = refl; same = refl; rank = omega arith }
 
 -- the event has its answer
 answered_has : (p : Position) (event : Event) → p.answered ≡ true → has_answer p event ≡ true
@@ -190,36 +192,37 @@ fails_closed m (Appoint e p members) none = refl
 fails_closed m (Activate e) none = refl
 
 -- the machine behind the fault
-fault_closes : (event : Event) (p : Position) → IsOf event p → boots_at event 0 → IsNoSurvey event → (after p (says.Fault 0)).machine ≡ closed p.machine 0
-fault_closes event p h is none =
+fault_closes : (event : Event) (primary : ℕ) (p : Position) → IsOf event primary p → boots_at event 0 → IsNoSurvey event → (after p (says.Fault 0)).machine ≡ closed p.machine 0
+fault_closes event primary p h is none =
     ap (λ m. with_first_role m p.event (drop 1 p.mounts)) (fails_closed p.machine p.event (subst IsNoSurvey (sym h.same) none))
     ∙ no_first_role (closed p.machine 0) p.event (drop 1 p.mounts) (subst (λ e. boots_at e 0) (sym h.same) is) (closed_down p.machine)
 
 -- it may come behind all lines of an event with its answer, in which the replica became active or showed more
-fault_may : (event : Event) (p : Position) → IsOf event p → IsComplete p → HoldsBehind p.machine → list_any (λ q. q == 0) p.rose ≡ true → p.answered ≡ true → (replica p.machine 0).up ≡ true → p.faulted ≡ [] → May p (says.Fault 0)
-fault_may event p h complete holds rose answered up whole = record {
+fault_may : (event : Event) (primary : ℕ) (p : Position) → IsOf event primary p → is_actor primary event 0 ≡ true → IsComplete p → HoldsBehind p.machine → list_any (λ q. q == 0) p.rose ≡ true → p.answered ≡ true → (replica p.machine 0).up ≡ true → p.faulted ≡ [] → May p (says.Fault 0)
+fault_may event primary p h acts complete holds rose answered up whole = record {
   named = refl;
   in_rank = le-leb p.rank 9 h.rank;
   next = ap (λ o. is_none o && not p.growing) complete.opened ∙ ap (λ g. not g) complete.grown;
   goes_on = or_right (is_boot p.event) (length p.faulted == 0) (ap (λ rs. length rs == 0) whole);
-  row = inr (record { rose = rose; answered = answered; nothing_due = λ t pending. holds.not_shown 0 t pending; is_up = up });
+  row = inr (record { acts = ap (λ (n : ℕ). is_actor n p.event 0) h.primary_same ∙ (ap (λ (e : Event). is_actor primary e 0) h.same ∙ acts); rose = rose; answered = answered; nothing_due = λ t pending. holds.not_shown 0 t pending; is_up = up });
 }
 
-pub fault_behind : (m : Machine) (event : Event) (lines : List Observation) → boots_at event 0 → IsNoSurvey event → refusal m event ≡ None → IsWhole m event lines →
+pub fault_behind : (m : Machine) (event : Event) (lines : List Observation) → boots_at event 0 → IsNoSurvey event → is_actor (event_primary m event) event 0 ≡ true → refusal m event ≡ None → IsWhole m event lines →
     list_any (λ q. q == 0) (behind (opened m event) lines).rose ≡ true → (behind (opened m event) lines).answered ≡ true → (replica (behind (opened m event) lines).machine 0).up ≡ true → (behind (opened m event) lines).faulted ≡ [] →
     HoldsBehind (closed (behind (opened m event) lines).machine 0) →
     IsWhole m event (lines ++ says.Fault 0 ∷ []) × (moved m event (lines ++ says.Fault 0 ∷ []) ≡ closed (moved m event lines) 0)
-fault_behind m event lines at_zero no_survey none whole rose answered up unfaulted holds =
+fault_behind m event lines at_zero no_survey acts none whole rose answered up unfaulted holds =
     let p : Position = behind (opened m event) lines in
-    let kept : IsOf event p = of_behind event (opened m event) lines (of_opened m event) in
+    let primary : ℕ = event_primary m event in
+    let kept : IsOf event primary p = of_behind event primary (opened m event) lines (of_opened m event) in
     let served : IsServed (opened m event) lines = subst (λ o. MatchOption o (IsServed (opened m event) lines) (λ refused. lines ≡ line_of_answer refused ∷ [])) none whole in
     let complete = served.complete in
-    let closes : (after p (says.Fault 0)).machine ≡ closed p.machine 0 = fault_closes event p kept at_zero no_survey in
+    let closes : (after p (says.Fault 0)).machine ≡ closed p.machine 0 = fault_closes event primary p kept at_zero no_survey in
     let then : behind (opened m event) (lines ++ says.Fault 0 ∷ []) ≡ after p (says.Fault 0) = behind_more (opened m event) lines (says.Fault 0 ∷ []) in
     let moves : moved m event lines ≡ p.machine = rw none refl in
     served_from m event (lines ++ says.Fault 0 ∷ []) (opened m event) (λ at. at ≡ closed (moved m event lines) 0) none refl
     (record {
-      may = Lines_more (opened m event) lines (says.Fault 0 ∷ []) served.may (fault_may event p kept complete served.holds rose answered up unfaulted, tt);
+      may = Lines_more (opened m event) lines (says.Fault 0 ∷ []) served.may (fault_may event primary p kept acts complete served.holds rose answered up unfaulted, tt);
       complete = subst IsComplete (sym then) (record {
         opened = complete.opened;
         grown = complete.grown;

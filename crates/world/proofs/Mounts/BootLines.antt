@@ -40,6 +40,7 @@ view_may = record {
   row = record {
     within = omega arith;
     all_that_grew = λ e. absurd (false≢true e);
+    grew_here = λ e. absurd (false≢true e);
     more = λ e. absurd (none-some 0 (sym e));
     primary = λ e. absurd (none-some 0 (sym e));
     acts = refl;
@@ -139,5 +140,5 @@ boot_barrier_faults = (
       in_rank = refl;
       next = refl;
       goes_on = refl;
-      row = inr (record { rose = refl; answered = refl; nothing_due = λ t h. absurd (false≢true h); is_up = refl });
+      row = inr (record { acts = refl; rose = refl; answered = refl; nothing_due = λ t h. absurd (false≢true h); is_up = refl });
     }

@@ -50,6 +50,7 @@ reboot_serves entries acknowledged last txns course shown within =
             row = record {
               within = omega arith;
               all_that_grew = λ e. absurd (false≢true e);
+              grew_here = λ e. absurd (false≢true e);
               more = λ e. absurd (none-some 0 (sym e));
               primary = λ e. absurd (none-some 0 (sym e));
               acts = refl;
