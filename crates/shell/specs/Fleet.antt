@@ -32,7 +32,7 @@ abbrev pub faults_told : ℕ → List Step → ℕ
 faults_told r [] = 0
 faults_told r (s ∷ steps) = faults_in r s.lines + faults_told r steps
 
--- the marks of the replica's disk behind the events: those that were answered `ok` count
+-- the marks of the replica's disk after the events: those that were answered `ok` count
 abbrev pub marks_told : ℕ → List Step → Marks → Marks
 marks_told r [] marks = marks
 marks_told r (s ∷ steps) marks = marks_told r steps (marked_by s.event s.lines r marks)
@@ -43,7 +43,7 @@ marks_told r (s ∷ steps) marks = marks_told r steps (marked_by s.event s.lines
 abbrev pub AreTold : List Step → (ℕ → Marks) → (ℕ → Marks) → Type 0
 AreTold steps before now = (r : ℕ) → now r ≡ marks_told r steps (before r)
 
--- where memory was wanted, the event of the next line may count without its line
+-- where it is out of memory, the event of the next line may count without its line
 pub record AreToldBut (steps : List Step) (left : List (List ℕ)) (status : ℕ) (before now : ℕ → Marks) : Type 0 where
   pub memory : status ≡ 8
   pub raw : List ℕ

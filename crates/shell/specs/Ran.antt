@@ -11,7 +11,7 @@ use Rattle.shell.specs.Text.{bad_line_text, limit_line_text}
 use Rattle.shell.specs.Script.{AreSteps, AreWithin}
 
 -- Why no more lines are done: none is left; the next one is bad, and reaches no limit; a limit is reached in it; or the run is cut short
--- there, by a fault or by want of memory.
+-- there, by a fault or by out of memory.
 pub data Ending : Type 0 where
   AtEnd : Ending
   AtBadLine : Ending
@@ -23,21 +23,21 @@ abbrev pub BeginsBad : List (List ℕ) → Type 0
 BeginsBad [] = ⊥
 BeginsBad (raw ∷ raws) = IsBad (line_text raw)
 
--- the ending has its cause in the lines that are left, behind these
+-- the ending has its cause in the lines that are left, after these
 abbrev pub Ends : Ending → List (List ℕ) → List (List ℕ) → Type 0
 Ends AtEnd before left = left ≡ []
 Ends AtBadLine before left = BeginsBad left × (limit_of (length before) (sum_by length before) left ≡ None)
 Ends (AtLimit which) before left = limit_of (length before) (sum_by length before) left ≡ Some which
 Ends CutShort before left = Unit {0}
 
--- what is written behind the lines of the events; the line has this number
+-- what is written after the lines of the events; the line has this number
 abbrev pub closing : Ending → ℕ → List ℕ
 closing AtEnd number = []
 closing AtBadLine number = bad_line_text number
 closing (AtLimit which) number = limit_line_text number which
 closing CutShort number = []
 
--- The statuses of the endings: 4 is for a fault of the source, 8 for want of memory.
+-- The statuses of the endings: 4 is for a fault of the source, 8 where it is out of memory.
 abbrev pub IsStatusOf : Ending → ℕ → Type 0
 IsStatusOf AtEnd status = status ≡ 0
 IsStatusOf AtBadLine status = status ≡ 3

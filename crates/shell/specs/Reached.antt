@@ -17,7 +17,7 @@ use Rattle.shell.specs.declared.lines.WriteError.{WriteError}
 use Rattle.shell.specs.declared.lines.WriteError.TheVariants.{Failed, NoMemory}
 
 -- These lines of the input are done and the others are left. The world and the fleet are where their events lead, and
--- the sink has all that they print behind what it held.
+-- the sink has all that they print after what it held.
 pub record Done {M : Type 0} (images : M → Areas → Type 0) (faults : M → ℕ) (marks : M → Marks) (input held : List ℕ) (before left : List (List ℕ)) (first fleet : List M) (world : Kept) (holds : List ℕ) : Type 0 where
   pub steps : List Step
   pub cut : raw_lines input ≡ before ++ left
@@ -36,7 +36,7 @@ pub record Reached {M : Type 0} (images : M → Areas → Type 0) (faults : M �
   pub given : sum_by length before ≡ reader.given
   pub done : Done images faults marks input held before (raw_lines ahead) first fleet world holds
 
--- The run ended with this status, with what it wrote behind what the sink held, and with the fleet as it promises. At most
+-- The run ended with this status, with what it wrote after what the sink held, and with the fleet as it promises. At most
 -- so many lines are done.
 abbrev pub HasEnded : {M : Type 0} → (M → Areas → Type 0) → (M → ℕ) → (M → Marks) → List ℕ → List ℕ → ℕ → List M → List M → ℕ → Option (List ℕ) → Type 0
 HasEnded images faults marks input held most first fleet status holds =
@@ -47,13 +47,13 @@ abbrev pub RunEnded : {M : Type 0} → (M → Areas → Type 0) → (M → ℕ) 
 RunEnded images faults marks input held unread first fleet status holds =
     (written : List ℕ) × (holds ≡ Some (held ++ written)) × (ran : Ran input status written) × Keeps images faults marks first fleet ran.steps ran.left status × IsRead status input ran.before unread
 
--- all of the text is written, or only a part from its front, or nothing for want of memory
+-- all of the text is written, or only a part from its front, or nothing where it is out of memory
 abbrev pub Writes : {T : Type 0} → List ℕ → Option (List ℕ) → Option (List ℕ) → Result T WriteError → Type 0
 Writes text old new (Ok done) = new ≡ append_known old text
 Writes text old new (Err Failed) = (n : ℕ) × (new ≡ append_known old (take n text))
 Writes text old new (Err NoMemory) = new ≡ old
 
--- behind a line: it is done too, or the run has ended
+-- after a line: it is done too, or the run has ended
 abbrev pub GoesOn : {M : Type 0} → (M → Areas → Type 0) → (M → ℕ) → (M → Marks) → List ℕ → List ℕ → List (List ℕ) → List (List ℕ) → List M → List M → Kept → Option (List ℕ) → Option ℕ → Type 0
 GoesOn images faults marks input held before left first fleet world holds None = (now : List ℕ) × (holds ≡ Some now) × Done images faults marks input held before left first fleet world now
 GoesOn images faults marks input held before left first fleet world holds (Some status) = HasEnded images faults marks input held (length before) first fleet status holds

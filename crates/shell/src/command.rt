@@ -31,7 +31,7 @@ use world::{World, WorldError};
 /// |---|---|
 /// | what they hold | once the world was booted, a write quorum of its configuration holds the order as far as it is acknowledged, each transaction in its place and with its operations, whatever a stop would leave of these disks then |
 /// | how they failed | each disk has failed at least as often as the lines say `fault` of its replica |
-/// | how they were called | each disk was armed and stopped as often, and the last time with that number, as the `arm` and `crash` that were answered `ok` say; where memory was wanted, that of the next line may count too |
+/// | how they were called | each disk was armed and stopped as often, and the last time with that number, as the `arm` and `crash` that were answered `ok` say; where it is out of memory, that of the next line may count too |
 ///
 /// Words that are no command leave the disks as they are.
 ///
@@ -42,7 +42,7 @@ use world::{World, WorldError};
 /// | 3 | a bad line that reaches no limit, after the events of the lines before it; `N stop 3` is written |
 /// | 4 | the source failed; what was read of it is the lines that were done, and a part of the next one |
 /// | 5 | the sink failed, which holds the first bytes of what was to be written: all lines of the events before the last one |
-/// | 8 | want of memory |
+/// | 8 | out of memory |
 /// | 9 | a limit is reached; `N stop 9 LIMIT` is written |
 pub fn run<S: Source, K: Sink, M: CrashDisk, H: Host>(
     alloc: Global,
@@ -146,7 +146,7 @@ fn run_world<S: Source, K: Sink, M: CrashDisk>(
     }
 }
 
-// The status of a run whose last line was to be written: this one, but where the sink failed or memory was wanted.
+// The status of a run whose last line was to be written: this one, but where the sink failed or it is out of memory.
 fn ended(written: Result<(), WriteError>, status: u8) -> u8
     ensures { result ≡ status_of written status }
 {

@@ -15,7 +15,7 @@ use transcript_text::print;
 /// Why a text was not written whole.
 #[derive(Clone, Copy, Debug)]
 pub enum WriteError {
-    /// The sink failed, behind a part of the text.
+    /// The sink failed, after a part of the text.
     Failed,
     /// Want of memory: nothing of the text was written.
     NoMemory,
@@ -72,7 +72,7 @@ fn text_of(alloc: Global, number: u64, lines: &[Observation]) -> Result<Vec<u8>,
 /// Writes the lines of an event.
 ///
 /// # Errors
-/// `Failed` where the sink failed, which has a part of them then; `NoMemory` for want of memory.
+/// `Failed` where the sink failed, which has a part of them then; `NoMemory` where it is out of memory.
 pub fn write_lines<K: Sink>(
     alloc: Global,
     sink: &mut K,
@@ -101,7 +101,7 @@ pub fn write_usage<K: Sink>(sink: &mut K) -> Result<(), WriteError>
     )
 }
 
-// The text of a number, and what comes behind it.
+// The text of a number, and what comes after it.
 fn numbered(alloc: Global, number: u64, rest: &[u8]) -> Result<Vec<u8>, AllocError>
     ensures { IfOk result (λ text. text.items ≡ decimal number ++ rest.now) }
 {
@@ -114,7 +114,7 @@ fn numbered(alloc: Global, number: u64, rest: &[u8]) -> Result<Vec<u8>, AllocErr
 /// Writes the last line of a run that a bad line of this number ends.
 ///
 /// # Errors
-/// `Failed` where the sink failed, which has a part of the line then; `NoMemory` for want of memory.
+/// `Failed` where the sink failed, which has a part of the line then; `NoMemory` where it is out of memory.
 pub fn write_bad_line<K: Sink>(alloc: Global, sink: &mut K, number: u64) -> Result<(), WriteError>
     ensures writes { Writes (text.bad_line_text number) (K.holds sink.old) (K.holds sink.new) result }
     ensures cause { Counted (K.faults sink.old) (K.faults sink.new) (IsErrOf result WriteError.Failed) }
@@ -126,7 +126,7 @@ pub fn write_bad_line<K: Sink>(alloc: Global, sink: &mut K, number: u64) -> Resu
 /// Writes the last line of a run that a limit ends, in the line of this number.
 ///
 /// # Errors
-/// `Failed` where the sink failed, which has a part of the line then; `NoMemory` for want of memory.
+/// `Failed` where the sink failed, which has a part of the line then; `NoMemory` where it is out of memory.
 pub fn write_limit<K: Sink>(
     alloc: Global,
     sink: &mut K,

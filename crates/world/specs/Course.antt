@@ -45,7 +45,7 @@ AreNoted [] (a ∷ appointments) = ⊥
 AreNoted (known ∷ others) [] = ⊥
 AreNoted (known ∷ others) (a ∷ appointments) = IsNoted known a × AreNoted others appointments
 
--- ---- transactions behind the end of a role
+-- ---- transactions after the end of a role
 
 -- a transaction that was begun here in an epoch up to the latest, and doesn't go on
 pub record IsPast (latest : Epoch) (t : TxnId) (x : Txn) : Type 0 where
@@ -62,7 +62,7 @@ pub record ArePast (course : Course) (entries : List Entry) (acknowledged : List
 -- ---- what a log holds beside the order
 
 -- a commit that may be the next of the order: it was asked, and has all operations of its transaction, whose calls a replay
--- behind these entries gives the answers that they had
+-- after these entries gives the answers that they had
 pub record MayBeNext (entries : List Entry) (txns : List (TxnId × Txn)) (c : Committed) : Type 0 where
   pub txn : Txn
   pub known : lookup (is_txn c.txn) txns ≡ Some txn

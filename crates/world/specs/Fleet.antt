@@ -68,11 +68,11 @@ marked (Survey q e) r marks = marks
 marked (Appoint e p members) r marks = marks
 marked (Activate e) r marks = marks
 
--- the marks behind an event with these lines: arming and stopping count where they were answered `ok`
+-- the marks after an event with these lines: arming and stopping count where they were answered `ok`
 abbrev pub marked_by : Event → List Observation → ℕ → Marks → Marks
 marked_by event lines r marks = if is_done lines then marked event r marks else marks
 
--- the marks behind an event that was done, or wasn't
+-- the marks after an event that was done, or wasn't
 abbrev pub marks_after : Event → Result (List Observation) WorldError → ℕ → Marks → Marks
 marks_after event (Ok lines) r marks = marked_by event lines r marks
 marks_after event (Err e) r marks = marks

@@ -15,7 +15,7 @@ use Rattle.world.specs.Standing.{Course, standing, serving}
 abbrev pub running : List Entry → List TxnId → List (TxnId × Txn) → ℕ → List Grant → Course → Machine
 running entries acknowledged txns begins grants course = standing entries acknowledged (serving course (length entries) begins grants) txns course
 
--- the state behind the entries
+-- the state after the entries
 abbrev pub state_of : List Entry → State
 state_of entries = folded [] (flat_map (λ e. e.ops) entries)
 

@@ -8,7 +8,7 @@ use Rattle.order_machine.specs.Order.{Entry}
 use Rattle.order_machine.specs.Machine.{Machine, Replica, Survey, Appointment, Txn, never_opened}
 use Rattle.order_machine.specs.Transitions.{first_epoch}
 
--- What was decided so far: the appointments, the boot's first and those behind it in order; the latest epoch of them; what
+-- What was decided so far: the appointments, the boot's first and those after it in order; the latest epoch of them; what
 -- was answered to surveys; and the surveys that came to replica 0.
 pub record Course : Type 0 where
   pub first : Appointment
@@ -21,7 +21,7 @@ pub record Course : Type 0 where
 abbrev pub first_appointment : Bool → Appointment
 first_appointment was_active = record { epoch = first_epoch; primary = 0; previous = 0 ∷ []; current = 0 ∷ []; dropped = false; was_active = was_active }
 
--- behind the boot
+-- after the boot
 abbrev pub first_course : Bool → Course
 first_course was_active = record { first = first_appointment was_active; later = []; latest = first_epoch; answers = []; surveys = [] }
 

@@ -78,7 +78,7 @@ effects_started p epoch r = record {
   lines = (p.lines ++ told_start p.order r) ++ says.Done ∷ [];
 }
 
--- ---- a step, and the Barrier behind it where one is due
+-- ---- a step, and the Barrier after it where one is due
 
 abbrev pub is_due : Open → StepEvent → Bool
 is_due r event = (outcome r event).barrier_due
@@ -86,7 +86,7 @@ is_due r event = (outcome r event).barrier_due
 abbrev pub finished : Open → StepEvent → Open
 finished r event = if is_due r event then stepped (stepped r event) steps.Barrier else stepped r event
 
--- the log behind the step, and behind both
+-- the log after the step, and after both
 abbrev pub log_once : Open → StepEvent → Log → Log
 log_once r event log = after log (block r event)
 
@@ -96,12 +96,12 @@ log_twice r event log = after (log_once r event log) (block (stepped r event) st
 abbrev pub log_behind : Open → StepEvent → Log → Log
 log_behind r event log = if is_due r event then log_twice r event log else log_once r event log
 
--- The disk failed in the first step, before any line of it, or in the second, behind the lines of the first.
+-- The disk failed in the first step, before any line of it, or in the second, after the lines of the first.
 abbrev pub IsCutOff : Open → StepEvent → Log → EventEffects → EventEffects → (Areas → Type 0) → Type 0
 IsCutOff r event log old new images =
     ((new ≡ old) × (block r event ≢ []) × StandForOneOf log (log_once r event log) images)
     ⊎ ((is_due r event ≡ true) × (new ≡ effects_after old r event) × StandForOneOf (log_once r event log) (log_twice r event log) images)
 
--- each image holds the log, or that behind the first step, or behind both
+-- each image holds the log, or that after the first step, or after both
 abbrev pub HoldsSome : Open → StepEvent → Log → (Areas → Type 0) → Type 0
 HoldsSome r event log images = Each images (λ c. (durable c ≡ Ok log) ⊎ ((durable c ≡ Ok (log_once r event log)) ⊎ ((is_due r event ≡ true) × (durable c ≡ Ok (log_twice r event log)))))

@@ -157,7 +157,7 @@ IsHere (Activate e) = Unit {0}
 abbrev pub StillHolds : Machine → (Areas → Type 0) → Type 0
 StillHolds m images = is_booted m ≡ true → DiskHolds m 0 images
 
--- At each state that world and disk stand for, the lines are whole, and world and disk stand for the state behind them.
+-- At each state that world and disk stand for, the lines are whole, and world and disk stand for the state after them.
 -- The disk still holds what was acknowledged before, also without all lines. No limit is reached so far.
 abbrev pub Serves : Kept → Kept → (Areas → Type 0) → (Areas → Type 0) → Event → Result (List Observation) WorldError → Type 0
 Serves old new before now event (Ok lines) = (m : Machine) → StandsFor old before m → IsWhole m event lines × StandsFor new now (moved m event lines) × StillHolds m now

@@ -12,7 +12,7 @@ pub enum WorldError {
     /// Want of memory.
     #[error("out of memory")]
     NoMemory,
-    /// The event reached a limit, behind these lines of it.
+    /// The event reached a limit, after these lines of it.
     #[error("the limit {which} was reached")]
     Limit {
         which: LimitName,

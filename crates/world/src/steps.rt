@@ -107,7 +107,7 @@ fn progress_in(answer: &Option<Answer>) -> Option<(Epoch, Lsn)>
     }
 }
 
-// A step of replica 0, and its lines. Answers whether a Barrier is due behind it.
+// A step of replica 0, and its lines. Answers whether a Barrier is due after it.
 pub(crate) fn take_step<M: CrashDisk>(
     replica: ReplicaId,
     opened: &mut Replica,
@@ -170,7 +170,7 @@ pub(crate) fn take_survey<M: CrashDisk>(
     Ok(answered)
 }
 
-// A step of replica 0 and its lines, and behind it the Barrier where one is due.
+// A step of replica 0 and its lines, and after it the Barrier where one is due.
 pub(crate) fn take_steps<M: CrashDisk>(
     replica: ReplicaId,
     opened: &mut Replica,
@@ -197,7 +197,7 @@ pub(crate) fn take_steps<M: CrashDisk>(
     Ok(())
 }
 
-// A call at replica 0 and its lines, and behind it the Barrier where one is due.
+// A call at replica 0 and its lines, and after it the Barrier where one is due.
 pub(crate) fn take_call<M: CrashDisk>(
     replica: ReplicaId,
     opened: &mut Replica,

@@ -51,7 +51,7 @@ impl World {
     /// A world in which nothing was booted. With a fleet of empty disks it stands for the first state of the machine.
     ///
     /// # Errors
-    /// `NoMemory` for want of memory.
+    /// `NoMemory` where it is out of memory.
     pub fn new(alloc: Global) -> Result<World, NoMemory>
         ensures { IfOk result (λ world. world ≡ no_events) }
     {
@@ -65,12 +65,12 @@ impl World {
     }
 
     /// Does an event, and gives its lines. At each state of the machine that world and fleet stand for these are all
-    /// lines of the event, and world and fleet stand for the state behind them. Only the disks of the replicas that take
+    /// lines of the event, and world and fleet stand for the state after them. Only the disks of the replicas that take
     /// a step are called; a `fault` is told only where that disk failed, and a disk is armed and stopped only where that
     /// was asked.
     ///
     /// # Errors
-    /// `NoMemory` for want of memory. The world is dropped then; the disks still hold what was acknowledged.
+    /// `NoMemory` where it is out of memory. The world is dropped then; the disks still hold what was acknowledged.
     pub fn event<M: CrashDisk>(
         &mut self,
         fleet: &mut Vec<M>,

@@ -1,4 +1,4 @@
-use Rattle.std.proofs.Common.{◌∙◌, sym, ap, subst, ◌+◌, [], ◌∷◌, ◌++◌, length, sum_by, refl, inl, inr, arith}
+use Rattle.std.proofs.Common.{◌∙◌, sym, ap, subst, ◌+◌, [], ◌∷◌, ◌++◌, length, sum_by, refl, inr, arith}
 use Rattle.rc_io.specs.Lines.{raw_lines}
 use Rattle.rc_io.specs.Limits.{limit_of}
 use Rattle.rc_io.specs.Reader.{Reading}
