@@ -10,8 +10,8 @@ use Rattle.transcript_text.specs.Lines.{transcript_of}
 use Rattle.shell.specs.Text.{bad_line_text, limit_line_text}
 use Rattle.shell.specs.Script.{AreSteps, AreWithin}
 
--- Why no more lines are done: none is left; the next one is bad, and reaches no limit; a limit is reached in it; or the run is cut short
--- there, by a fault or by out of memory.
+-- Why no more lines are done: none is left; the next one is bad, and reaches no limit; a limit is reached in it; or the
+-- run is cut short there, by a fault or where it is out of memory.
 pub data Ending : Type 0 where
   AtEnd : Ending
   AtBadLine : Ending
