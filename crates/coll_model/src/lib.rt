@@ -11,6 +11,3 @@ pub use contents::{Contents, Pairs, Values};
 pub use op::{Kind, Op, Ops};
 pub use rows::{Collection, Image, Names, Rows, Words, row_words};
 pub use state::State;
-
-#[cfg(test)]
-mod tests;

@@ -11,6 +11,3 @@ mod rule;
 pub use appointments::Appointment;
 pub use error::{Broken, RuleError};
 pub use rule::Rule;
-
-#[cfg(test)]
-mod tests;

@@ -65,6 +65,13 @@ impl Rule {
         })
     }
 
+    /// How many appointments there were, with that of the boot. It takes no memory.
+    pub fn appointments(&self) -> usize
+        ensures { result ≡ length self.now.appointed }
+    {
+        self.appointed.len()
+    }
+
     /// Whether a survey may be asked for the epoch: it is above each appointed epoch. It takes no memory.
     pub fn survey_ok(&self, epoch: Epoch) -> bool
         ensures { result ≡ rule.is_above self.now.appointed epoch }

@@ -11,6 +11,3 @@ pub use area::{Area, LOG0, LOG1, SLOT0, SLOT1};
 pub use disk::{CrashDisk, Disk, DiskError};
 pub use memory::MemDisk;
 pub use through::{cut_through, read_all, write_through};
-
-#[cfg(test)]
-mod tests;

@@ -4,7 +4,7 @@ use rc_base::{Epoch, ReplicaId};
 
 /// One event of a script: what a client asks of a replica, or what happens to the world. There is one variant for each
 /// form of sentence that is built so far, with the sentence's words as its fields, in order; those of the clients are
-/// the variants of `Call`.
+/// the variants of `Call`, and of these the ones on a key the variants of `KeyCall`.
 #[derive(Drop)]
 pub enum Event {
     /// `boot P MEMBERS`: opens the members and starts epoch 0.1 with P as its primary.

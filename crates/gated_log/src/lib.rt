@@ -9,6 +9,3 @@ mod log;
 pub use block::{Block, Blocks};
 pub use error::LogError;
 pub use log::GatedLog;
-
-#[cfg(test)]
-mod tests;

@@ -15,6 +15,3 @@ pub use laws::alike_grants_stay_alike;
 pub use lock_mode::LockMode;
 pub use lock_name::LockName;
 pub use locks::Locks;
-
-#[cfg(test)]
-mod tests;

@@ -21,6 +21,3 @@ pub use ranges::{physical_in_range, record_in_range};
 pub use record::{Physical, Record};
 pub use words::{is_key, is_value};
 pub use writing::{op_fits, physical_fits, record_fits};
-
-#[cfg(test)]
-mod tests;

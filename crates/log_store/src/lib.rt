@@ -12,6 +12,3 @@ pub use durable::Durable;
 pub use error::RecoverError;
 pub use kept::Kept;
 pub use store::LogStore;
-
-#[cfg(test)]
-mod tests;

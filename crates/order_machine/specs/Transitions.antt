@@ -257,7 +257,8 @@ pub record MayOrder (p : Position) (t : TxnId) (ops : List Op) : Type 0 where
   pub whole : ops ≡ ops_of txn
   pub replays : let order = order_of p.machine (p.primary) in Replays (state_at order (length_of order)) txn.calls
 
--- a replica shows more: it was opened, or it is a primary
+-- A replica that takes a step in the event shows more: it was opened, or it is a primary. Behind `order` it is the event's
+-- primary, whose order grew, and it shows all of that.
 pub record MayShow (p : Position) (r n : ℕ) : Type 0 where
   pub within : n ≤ length_of (order_of p.machine r)
   pub all_that_grew : p.growing ≡ true → n ≡ length_of (order_of p.machine r)
@@ -360,7 +361,8 @@ MayFailFirst p (Survey at e) r = (at ≡ r) × (p.rank ≡ 0) × (p.answered ≡
 MayFailFirst p (Appoint e primary members) r = (primary ≡ r) × (p.rank ≡ 0) × (p.answered ≡ false)
 MayFailFirst p _ r = ⊥
 
--- one in the second step, behind the answer: a primary that became active or showed more logs that
+-- One in the second step, behind the answer: a primary that took a step in the event, and in it became active or showed
+-- more, logs that. All that is pending there and shown is acknowledged by then.
 pub record MayFailSecond (p : Position) (r : ℕ) : Type 0 where
   pub acts : is_actor p.primary p.event r ≡ true
   pub rose : list_any (λ q. q == r) p.rose ≡ true

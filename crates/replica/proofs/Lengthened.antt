@@ -33,7 +33,8 @@ use Rattle.log_store.specs.Growth.{after_one, after}
 use Rattle.replica.specs.declared.role.Role.TheVariants.{Other}
 use Rattle.replica.specs.declared.step.StepEvent.{StepEvent}
 use Rattle.replica.specs.declared.step.StepEvent.TheVariants as steps
-use Rattle.replica.specs.Open.{Open, stable_told, stable_in, shown_in, AgreesWith}
+use Rattle.replica.specs.Open.{Open, shown_in, AgreesWith}
+use Rattle.txn_table.specs.Whole.{stable_told, stable_in}
 use Rattle.replica.specs.Step.{is_active, reply, begin_due, prev_of, logged_op, logged_call, logged_by, logged, going_in, epoch_in, placed, block, behind, lengthened, noted, answered, surveyed, stepped, committed_by, MayStep}
 use Rattle.replica.proofs.OneMore.{stable_push, commits_more}
 use Rattle.replica.proofs.OneRecord.{barrier_grows, epoch_starts}

@@ -19,7 +19,7 @@ use Rattle.txn_table.proofs.Records.{begin_changes_none}
 use Rattle.txn_table.proofs.LogGrowth.{commits_from-push}
 use Rattle.txn_table.specs.Log.{Items, numbered, known_in, commits_in, no_base}
 use Rattle.log_store.specs.Epochs.{later}
-use Rattle.replica.specs.Open.{stable_told, stable_in}
+use Rattle.txn_table.specs.Whole.{stable_told, stable_in}
 
 -- the position behind a log
 abbrev pub next : Items → Lsn

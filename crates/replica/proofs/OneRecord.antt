@@ -34,7 +34,8 @@ use Rattle.log_store.specs.Epochs.{later}
 use Rattle.log_store.specs.Growth.{MayCome, after_one}
 use Rattle.replica.specs.declared.role.Role.{Role}
 use Rattle.replica.specs.declared.role.Role.TheVariants.{Other, Primary}
-use Rattle.replica.specs.Open.{Open, stable_told, commits_to, state_of, IsKnownAs, IsPrimary, HasRole, AgreesWith}
+use Rattle.replica.specs.Open.{Open, commits_to, state_of, IsKnownAs, IsPrimary, HasRole, AgreesWith}
+use Rattle.txn_table.specs.Whole.{stable_told}
 use Rattle.replica.specs.Step.{is_active, behind, lengthened, started}
 use Rattle.replica.proofs.OneMore.{next, stable_push, known_is, with_map, with_begin, known_before, known_or_new, fresh, others_stay}
 use Rattle.lock_laws.proofs.ProtectedStates.{IsOrdered-folded}

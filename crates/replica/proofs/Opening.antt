@@ -27,7 +27,8 @@ use Rattle.txn_front.specs.Front.{Fronted, nothing}
 use Rattle.lock_laws.proofs.ProtectedStates.{IsOrdered-nil, IsOrdered-folded}
 use Rattle.txn_front.proofs.Fronts.{IsOver-nothing}
 use Rattle.replica.specs.declared.role.Role.TheVariants.{Other}
-use Rattle.replica.specs.Open.{Open, stable_told, stable_in, commits_to, state_of, AgreesWith}
+use Rattle.replica.specs.Open.{Open, commits_to, state_of, AgreesWith}
+use Rattle.txn_table.specs.Whole.{stable_told, stable_in}
 use Rattle.replica.specs.Reading.{IsRead, with_commit}
 use Rattle.replica.proofs.OneMore.{next, commits_few, known_before, known_or_new}
 use Rattle.rc_base.proofs.EpochOrder.{epoch_le_same, epoch_le_trans, epoch_lt_le}

@@ -1,16 +1,15 @@
 -- An open replica: what it keeps, and when that agrees with its log.
-use Rattle.std.specs.Prelude.{◌≡◌, ℕ, ◌≤◌, max, Bool, true, List, [], ◌∷◌, ◌++◌, length, take, map, flat_map, Option, Some, None}
+use Rattle.std.specs.Prelude.{◌≡◌, ℕ, ◌≤◌, Bool, true, List, [], ◌∷◌, ◌++◌, length, take, map, flat_map, Option, Some, None}
 use Rattle.rc_base.specs.declared.ids.Epoch.{Epoch}
 use Rattle.rc_base.specs.declared.ids.Lsn.{Lsn}
 use Rattle.rc_base.specs.declared.ids.TxnId.{TxnId}
 use Rattle.rc_base.specs.Ids.{epoch_le}
 use Rattle.coll_model.specs.Effect.{State, folded}
-use Rattle.log_records.specs.declared.record.Record.{Record}
-use Rattle.log_records.specs.declared.record.Record.TheVariants.{Begin, Operation, End, Barrier, EpochStart}
 use Rattle.txn_table.specs.declared.committed.Committed.{Committed}
 use Rattle.txn_table.specs.declared.known.Known.{Known}
 use Rattle.txn_table.specs.Commits.{with_txn, is_pending, last_of}
 use Rattle.txn_table.specs.Log.{Items, last_epoch, known_in, commits_in}
+use Rattle.txn_table.specs.Whole.{stable_in}
 use Rattle.log_store.specs.declared.kept.Kept.{Kept}
 use Rattle.log_store.specs.Store.{Store}
 use Rattle.txn_front.specs.Front.{Fronted, Going, AreAlike, IsOver, numbered, txn_at}
@@ -41,19 +40,6 @@ pub record AreSame (a b : Open) : Type 0 where
   pub front : AreAlike a.front b.front
 
 -- ---- what a log shows
-
--- what a Barrier tells as stable
-abbrev pub stable_told : Record → ℕ
-stable_told (Begin txn) = 0
-stable_told (Operation txn prev op) = 0
-stable_told (End txn prev committed) = 0
-stable_told (Barrier stable) = stable.0
-stable_told (EpochStart epoch) = 0
-
--- the greatest position that a Barrier of the log tells
-abbrev pub stable_in : Items → ℕ
-stable_in [] = 0
-stable_in (item ∷ items) = max (stable_told item.1) (stable_in items)
 
 -- the commits of the log at or below a position
 abbrev pub commits_to : ℕ → Items → List Committed

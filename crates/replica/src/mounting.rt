@@ -4,7 +4,7 @@ ghost use Rattle.txn_table.specs.Commits.{fault_in, commit_in};
 ghost use Rattle.txn_table.specs.Tables.{with_records};
 ghost use Rattle.txn_table.specs.Log as logs;
 ghost use Rattle.txn_table.specs.Log.{IsLog};
-ghost use Rattle.replica.specs.Open as spec;
+ghost use Rattle.txn_table.specs.Whole as whole;
 ghost use Rattle.replica.specs.Reading.{IsRead, with_commit};
 
 use crate::commits::Commits;
@@ -29,7 +29,7 @@ pub(crate) struct Shown {
 pub(crate) fn read(alloc: Global, records: &[(Epoch, Record)]) -> Result<Shown, NoMemory>
     requires log { IsLog records.now }
     ensures read { IfOk result (λ shown. IsRead shown records.now) }
-    ensures stable { IfOk result (λ shown. shown.stable.0 ≡ spec.stable_in records.now) }
+    ensures stable { IfOk result (λ shown. shown.stable.0 ≡ whole.stable_in records.now) }
 {
     let mut shown = Shown {
         stable: stable_in(records),
@@ -79,7 +79,7 @@ fn add(shown: &mut Shown, lsn: Lsn, commit: Option<Committed>) -> Result<(), NoM
 
 // The greatest position that a Barrier tells as stable.
 fn stable_in(records: &[(Epoch, Record)]) -> Lsn
-    ensures { result.0 ≡ spec.stable_in records.now }
+    ensures { result.0 ≡ whole.stable_in records.now }
 {
     let mut stable = Lsn(0);
     for (_, body) in records {

@@ -10,7 +10,8 @@ ghost use Rattle.log_store.specs.Store.{IsOpenOn, KeepsOrBegins, SlotsStay};
 ghost use Rattle.txn_front.specs.Front.{nothing};
 ghost use Rattle.replica.specs.declared.error.StepError.TheVariants as errors;
 ghost use Rattle.replica.specs.declared.role.Role.TheVariants.{Other};
-ghost use Rattle.replica.specs.Open.{AgreesWith, AreSame, stable_in};
+ghost use Rattle.replica.specs.Open.{AgreesWith, AreSame};
+ghost use Rattle.txn_table.specs.Whole.{stable_in};
 ghost use Rattle.replica.specs.Step as spec;
 ghost use Rattle.replica.specs.Step.{MayStep, block, outcome, quiet, stepped};
 

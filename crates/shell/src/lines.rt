@@ -13,7 +13,7 @@ use std::alloc::{AllocError, AllocFailed, Global};
 use transcript_text::print;
 
 /// Why a text was not written whole.
-#[derive(Clone, Copy, Debug)]
+#[derive(Clone, Copy)]
 pub enum WriteError {
     /// The sink failed, after a part of the text.
     Failed,

@@ -3,7 +3,7 @@ ghost use Rattle.transcript_text.specs.declared.cause.Cause.{Cause as CauseValue
 ghost use Rattle.transcript_text.specs.Forms.{cause_word};
 
 /// Why an event was ignored, which the word after `ignored` tells.
-#[derive(Clone, Copy, Debug, PartialEq, Eq)]
+#[derive(Clone, Copy, PartialEq, Eq)]
 pub(crate) enum Cause {
     Up,
     OldEpoch,

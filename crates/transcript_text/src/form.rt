@@ -3,7 +3,7 @@ ghost use Rattle.transcript_text.specs.declared.form.Form.{Form as FormValue};
 ghost use Rattle.transcript_text.specs.Forms.{form_word};
 
 /// The form of a line, which its first word tells: those that begin with `ignored` are one.
-#[derive(Clone, Copy, Debug, PartialEq, Eq)]
+#[derive(Clone, Copy, PartialEq, Eq)]
 pub(crate) enum Form {
     Up,
     Order,

@@ -5,7 +5,7 @@ use rc_base::NoMemory;
 use std::alloc::AllocError;
 
 /// Why words were not read.
-#[derive(Clone, Copy, Debug, PartialEq, Eq)]
+#[derive(Clone, Copy, PartialEq, Eq)]
 pub(crate) enum WordError {
     /// They are no value's. So many are left from the first wrong one on.
     Wrong { left: usize },

@@ -14,6 +14,3 @@ pub use committed::Committed;
 pub use error::TableError;
 pub use known::{Ending, Known};
 pub use table::Table;
-
-#[cfg(test)]
-mod tests;

@@ -8,7 +8,7 @@ ghost use Rattle.order_machine.specs.declared.observation.Observation.TheVariant
 ghost use Rattle.rc_base.specs.Ids.{no_epoch};
 ghost use Rattle.txn_front.specs.Front.{nothing};
 ghost use Rattle.replica.specs.declared.role.Role.TheVariants.{Other};
-ghost use Rattle.replica.specs.Open.{stable_in};
+ghost use Rattle.txn_table.specs.Whole.{stable_in};
 ghost use Rattle.world.specs.World.{IsOpen};
 
 use disk_model::CrashDisk;

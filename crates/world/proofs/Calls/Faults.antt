@@ -31,7 +31,8 @@ use Rattle.replica.specs.declared.role.Role.{Role}
 use Rattle.replica.specs.declared.role.Role.TheVariants.{Other, Primary}
 use Rattle.replica.specs.declared.step.StepEvent.{StepEvent}
 use Rattle.replica.specs.declared.step.StepEvent.TheVariants as steps
-use Rattle.replica.specs.Open.{Open, AgreesWith, stable_in}
+use Rattle.replica.specs.Open.{Open, AgreesWith}
+use Rattle.txn_table.specs.Whole.{stable_in}
 use Rattle.log_records.specs.declared.record.Record.TheVariants as recs
 use Rattle.replica.specs.Step.{placed, logged_op, logged_abort, CallFits, MayStep, reply, is_active, logged, logged_by, called, answered, committed_by, outcome, stepped, block}
 use Rattle.txn_front.specs.Front.{Fronted, Going, going_of, told}

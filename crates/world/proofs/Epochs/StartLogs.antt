@@ -9,7 +9,8 @@ use Rattle.log_store.specs.declared.kept.Kept.{Kept as Log}
 use Rattle.log_store.specs.Epochs.{later}
 use Rattle.replica.specs.declared.step.StepEvent.{StepEvent}
 use Rattle.replica.specs.declared.step.StepEvent.TheVariants as steps
-use Rattle.replica.specs.Open.{Open, AgreesWith, stable_in, shown_in, commits_to}
+use Rattle.replica.specs.Open.{Open, AgreesWith, shown_in, commits_to}
+use Rattle.txn_table.specs.Whole.{stable_in}
 use Rattle.replica.specs.Step.{MayStep, stepped, started}
 use Rattle.replica.proofs.Lengthened.{commits_after, steps_to}
 use Rattle.world.specs.Course.{IsFence}

@@ -13,7 +13,8 @@ use Rattle.order_machine.specs.Order.{empty_order}
 use Rattle.order_machine.specs.Machine.{Machine, Replica, never_opened, without_role, ended_at}
 use Rattle.order_machine.specs.Legal.{moved}
 use Rattle.txn_front.specs.Front.{Fronted, nothing, going_of}
-use Rattle.replica.specs.Open.{Open, AreSame, stable_in}
+use Rattle.replica.specs.Open.{Open, AreSame}
+use Rattle.txn_table.specs.Whole.{stable_in}
 use Rattle.replica.specs.Step.{started}
 use Rattle.replica.proofs.Lengthened.{commits_prefix}
 use Rattle.world.specs.Course.{IsCourse, IsFence, IsLogged, is_appointed}

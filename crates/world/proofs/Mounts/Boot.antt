@@ -28,7 +28,8 @@ use Rattle.replica.specs.declared.role.Role.TheVariants.{Other}
 use Rattle.replica.specs.declared.step.StepEvent.{StepEvent}
 use Rattle.replica.specs.declared.step.StepEvent.TheVariants as steps
 use Rattle.replica.specs.Open as opens
-use Rattle.replica.specs.Open.{Open, AreSame, AgreesWith, stable_in, commits_to}
+use Rattle.replica.specs.Open.{Open, AreSame, AgreesWith, commits_to}
+use Rattle.txn_table.specs.Whole.{stable_in}
 use Rattle.replica.specs.Step.{MayStep}
 use Rattle.world.specs.Fleet.{faults_in, TellsZero}
 use Rattle.world.specs.Course.{IsCourse, IsOurs, ArePast, IsFence}

@@ -22,7 +22,8 @@ use Rattle.order_machine.specs.Legal.{IsWhole, moved}
 use Rattle.txn_front.specs.Front.{nothing}
 use Rattle.replica.specs.declared.role.Role.{Role}
 use Rattle.replica.specs.declared.role.Role.TheVariants.{Other, Primary}
-use Rattle.replica.specs.Open.{Open, commits_to, shown_in, stable_in}
+use Rattle.replica.specs.Open.{Open, commits_to, shown_in}
+use Rattle.txn_table.specs.Whole.{stable_in}
 use Rattle.world.specs.Disks.{as_commit}
 use Rattle.rc_base.specs.declared.ids.TxnId.{TxnId}
 use Rattle.world.specs.Course.{IsFence, IsLogged}

@@ -1,5 +1,5 @@
 use Rattle.std.proofs.Common.{◌≡◌, max, drop}
-use Rattle.replica.specs.Open as spec
+use Rattle.txn_table.specs.Whole as spec
 use Rattle.replica.proofs.mounting.stable_in.Given as goal
 
 abbrev pub invariant-loop-body : goal.invariant-loop-body

@@ -1,4 +1,7 @@
-use super::*;
+use disk_model::{
+    Area, CrashDisk, Disk, DiskError, LOG0, LOG1, MemDisk, SLOT0, SLOT1, cut_through, read_all,
+    write_through,
+};
 use std::alloc::Global;
 use std::process::Abort;
 use std::test::Fail;

@@ -1,12 +1,12 @@
 ghost use Rattle.std.specs.Prelude.{◌≡◌, ◌≤◌, IfOk};
-ghost use Rattle.log_store.specs.Examples.{first_items};
+ghost use Rattle.log_tests.specs.Examples.{first_items};
 
-use super::*;
 use barrier_group::Group;
 use coll_model::Op;
 use disk_model::{Area, CrashDisk, LOG0, LOG1, MemDisk, read_all};
 use gated_log::{GatedLog, LogError};
 use log_records::{Physical, Record, physical_fits};
+use log_store::{Durable, LogStore, RecoverError};
 use rc_base::{Epoch, Lsn, Name, NoMemory, TxnId};
 use std::alloc::Global;
 use std::process::Abort;

@@ -5,10 +5,10 @@ use Rattle.log_records.specs.declared.record.Record.TheVariants.{Begin, EpochSta
 use Rattle.log_records.specs.declared.record.Physical.{Physical}
 use Rattle.txn_table.specs.Log.{MayStandAfter, no_base}
 use Rattle.log_store.specs.declared.kept.Kept.{Kept}
-use Rattle.log_store.specs.Examples.{one, first_items}
+use Rattle.log_tests.specs.Examples.{one, first_items}
 use Rattle.log_store.specs.Growth.{GoesOn}
 use Rattle.log_store.specs.Store.{kept_as}
-use Rattle.log_store.proofs.tests.append_first.Goals as goal
+use Rattle.log_tests.proofs.store.append_first.Goals as goal
 
 goes_from : (identity : Option ℕ) (fence : Epoch) → GoesOn (record { identity = identity; fence = fence; records = [] }) first_items
 goes_from identity fence =

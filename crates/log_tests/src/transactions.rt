@@ -2,7 +2,6 @@ ghost use Rattle.std.specs.Prelude.{◌≤◌, IfOk};
 ghost use Rattle.std.specs.List.{AllByRecursion};
 ghost use Rattle.txn_table.specs.Tables.{IsBelow, RiseByTxn};
 
-use super::*;
 use coll_model::Op;
 use log_records::{LoggedOps, Pending, PendingTxn, Record};
 use rc_base::{Epoch, Lsn, Name, TxnId};
@@ -10,6 +9,7 @@ use std::alloc::Global;
 use std::marker::Model;
 use std::process::Abort;
 use std::test::*;
+use txn_table::{Committed, Table, TableError};
 
 // A record of a log: transaction n of epoch 0.1 begins, operates on the collection with this name of one letter, or
 // ends; a Barrier; an epoch. The second number is the position of the transaction's record before.

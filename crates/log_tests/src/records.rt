@@ -1,5 +1,8 @@
-use super::*;
 use coll_model::{Kind, Op};
+use log_records::{
+    CodecError, Physical, Record, decode, decode_op, decode_record, encode, encode_op,
+    encode_record, op_fits, physical_fits, record_fits,
+};
 use rc_base::{Bytes, Epoch, Lsn, Name, NoMemory, TxnId};
 use std::alloc::{AllocError, Global};
 use std::test::*;

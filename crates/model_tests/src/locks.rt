@@ -1,4 +1,4 @@
-use super::*;
+use key_locks::{LockMode, LockName, Locks, TakeError};
 use rc_base::{Bytes, Epoch, Name, NoMemory, TxnId};
 use std::alloc::Global;
 use std::process::Abort;

@@ -1,8 +1,8 @@
 ghost use Rattle.std.specs.Prelude.{◌≡◌, false, IfOk};
 ghost use Rattle.gated_log.specs.Log.{IsSettled};
 
-use super::*;
 use disk_model::{Area, CrashDisk, Disk, DiskError, LOG0, LOG1, MemDisk, read_all, write_through};
+use gated_log::{Block, Blocks, GatedLog, LogError};
 use rc_base::Bytes;
 use std::alloc::Global;
 use std::process::Abort;

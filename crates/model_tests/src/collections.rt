@@ -1,4 +1,4 @@
-use super::*;
+use coll_model::{Collection, Kind, Op, State, row_words};
 use rc_base::{Bytes, Name, NoMemory};
 use std::alloc::Global;
 use std::test::*;

@@ -1,4 +1,4 @@
-use super::*;
+use config_rule::{Appointment, Broken, Rule, RuleError};
 use rc_base::{Epoch, Lsn, Members, ReplicaId};
 use std::alloc::Global;
 use std::process::Abort;

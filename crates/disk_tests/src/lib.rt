@@ -1,0 +1,7 @@
+//! Tests of the disks: what calls and stops leave in memory, and the blocks of a log over them.
+#![tactic(auto)]
+
+#[cfg(test)]
+mod blocks;
+#[cfg(test)]
+mod disk;
