@@ -14,7 +14,7 @@ use Rattle.txn_table.proofs.LogGrowth.{not_lower, last_from-push}
 use Rattle.log_store.specs.declared.fold.Standing.{Standing}
 use Rattle.log_store.specs.declared.kept.Kept.{Kept}
 use Rattle.log_store.specs.declared.kept.Row.{Row}
-use Rattle.log_store.specs.Epochs.{later}
+use Rattle.txn_table.specs.Epochs.{later}
 use Rattle.rc_base.specs.Ids.{no_epoch}
 use Rattle.log_store.specs.Payload.{records_of}
 use Rattle.log_store.specs.Fold.{Place, told, and_then, items_of, step, folded, behind_items, behind_block, behind_blocks, first_wrong, judged, kept_of, kept_behind, held_by}

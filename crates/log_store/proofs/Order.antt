@@ -3,7 +3,7 @@ use Rattle.std.proofs.Common.{◌≡◌, inl, inr, Bool, true, false, sym, ap, �
 use Rattle.std.specs.Prelude.{if◌then◌else◌}
 use Rattle.std.proofs.lemmas.Bool.{cases_Bool}
 use Rattle.rc_base.specs.declared.ids.Epoch.{Epoch}
-use Rattle.log_store.specs.Epochs.{later}
+use Rattle.txn_table.specs.Epochs.{later}
 use Rattle.rc_base.specs.Ids.{epoch_lt}
 use Rattle.rc_base.proofs.EpochOrder.{epoch_lt_asym, epoch_lt_not_lt, epoch_not_lt_lt, epoch_same_from_neither}
 

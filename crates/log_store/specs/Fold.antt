@@ -7,7 +7,7 @@ use Rattle.log_records.specs.declared.record.Physical.TheVariants.{Logical, Fenc
 use Rattle.log_store.specs.declared.kept.Kept.{Kept}
 use Rattle.log_store.specs.declared.kept.Row.{Row}
 use Rattle.log_store.specs.declared.fold.Standing.{Standing}
-use Rattle.log_store.specs.Epochs.{later}
+use Rattle.txn_table.specs.Epochs.{later}
 use Rattle.rc_base.specs.Ids.{no_epoch}
 use Rattle.txn_table.specs.Commits.{fault_in}
 use Rattle.txn_table.specs.Log.{Items, last_epoch, may_follow, may_stand, known_in}

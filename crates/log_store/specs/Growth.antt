@@ -4,7 +4,7 @@ use Rattle.log_records.specs.declared.record.Physical.{Physical}
 use Rattle.log_records.specs.declared.record.Physical.TheVariants.{Logical, Fence, TruncateTail, CheckpointDone, Reset, Head}
 use Rattle.txn_table.specs.Log.{MayStandAfter, no_base}
 use Rattle.log_store.specs.declared.kept.Kept.{Kept}
-use Rattle.log_store.specs.Epochs.{later}
+use Rattle.txn_table.specs.Epochs.{later}
 use Rattle.rc_base.specs.Ids.{no_epoch}
 
 -- A Fence may always come. A logical record has the next position, and may stand behind the records.

@@ -1,6 +1,5 @@
 pub mod Answers
 pub mod Durable
-pub mod Epochs
 pub mod Fold
 pub mod Growth
 pub mod Payload

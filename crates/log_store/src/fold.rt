@@ -5,7 +5,7 @@ ghost use Rattle.txn_table.specs.Commits.{Logged, fault_in};
 ghost use Rattle.txn_table.specs.Tables.{StandsFor};
 ghost use Rattle.txn_table.specs.Log as rules;
 ghost use Rattle.log_store.specs.Answers.{Finds};
-ghost use Rattle.log_store.specs.Epochs as order;
+ghost use Rattle.txn_table.specs.Epochs as order;
 ghost use Rattle.log_store.specs.Fold as spec;
 ghost use Rattle.log_store.specs.Fold.{told, step, folded, opening, opened, behind_block, behind_blocks, first_wrong, judged, kept_of, kept_behind, held_by};
 

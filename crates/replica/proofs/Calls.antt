@@ -31,7 +31,7 @@ use Rattle.txn_table.specs.Log.{Items, known_in, commits_in}
 use Rattle.txn_front.specs.Front as front
 use Rattle.txn_front.specs.Front.{Fronted, Going, IsOver, txn_at, going_of, operated, begun}
 use Rattle.log_store.specs.declared.kept.Kept.{Kept}
-use Rattle.log_store.specs.Epochs.{later}
+use Rattle.txn_table.specs.Epochs.{later}
 use Rattle.log_store.specs.Growth.{after_one, after, GoesOn}
 use Rattle.replica.specs.declared.step.StepEvent.TheVariants as steps
 use Rattle.replica.specs.Open.{Open, IsKnownAs, IsPrimary, HasRole, AgreesWith}

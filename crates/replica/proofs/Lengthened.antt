@@ -28,7 +28,7 @@ use Rattle.txn_table.specs.Log.{Items, commits_in}
 use Rattle.txn_front.specs.Front as front
 use Rattle.txn_front.specs.Front.{Fronted, Going, going_of, begun, operated, nothing}
 use Rattle.log_store.specs.declared.kept.Kept.{Kept}
-use Rattle.log_store.specs.Epochs.{later}
+use Rattle.txn_table.specs.Epochs.{later}
 use Rattle.log_store.specs.Growth.{after_one, after}
 use Rattle.replica.specs.declared.role.Role.TheVariants.{Other}
 use Rattle.replica.specs.declared.step.StepEvent.{StepEvent}

@@ -18,7 +18,7 @@ use Rattle.txn_table.specs.Tables.{followed, with_records}
 use Rattle.txn_table.proofs.Records.{begin_changes_none}
 use Rattle.txn_table.proofs.LogGrowth.{commits_from-push}
 use Rattle.txn_table.specs.Log.{Items, numbered, known_in, commits_in, no_base}
-use Rattle.log_store.specs.Epochs.{later}
+use Rattle.txn_table.specs.Epochs.{later}
 use Rattle.txn_table.specs.Whole.{stable_told, stable_in}
 
 -- the position behind a log

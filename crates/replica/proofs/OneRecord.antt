@@ -30,7 +30,7 @@ use Rattle.txn_table.specs.Log.{Items, may_follow, may_stand, last_epoch, known_
 use Rattle.txn_table.proofs.LogGrowth.{last_from-push, known_from-push, commits_from-push}
 use Rattle.txn_front.specs.Front.{Fronted, Going, IsOver, txn_at, numbered, going_of}
 use Rattle.log_store.specs.declared.kept.Kept.{Kept}
-use Rattle.log_store.specs.Epochs.{later}
+use Rattle.txn_table.specs.Epochs.{later}
 use Rattle.log_store.specs.Growth.{MayCome, after_one}
 use Rattle.replica.specs.declared.role.Role.{Role}
 use Rattle.replica.specs.declared.role.Role.TheVariants.{Other, Primary}

@@ -24,7 +24,7 @@ use Rattle.log_records.specs.declared.record.Record.{Record}
 use Rattle.log_records.specs.declared.record.Record.TheVariants.{Begin, End}
 use Rattle.rc_base.specs.Names.{is_name}
 use Rattle.log_records.specs.Spelling.{OpFits, is_key, is_value}
-use Rattle.log_store.specs.Epochs.{later}
+use Rattle.txn_table.specs.Epochs.{later}
 use Rattle.log_store.specs.Store.{Store}
 use Rattle.txn_front.specs.Front as front
 use Rattle.txn_front.specs.Front.{Fronted, Going, AreAlike, going_of, txn_at}

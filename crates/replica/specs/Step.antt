@@ -25,7 +25,7 @@ use Rattle.log_records.specs.Spelling.{is_key, is_value}
 use Rattle.txn_table.specs.declared.committed.Committed.{Committed}
 use Rattle.txn_front.specs.Front as front
 use Rattle.txn_front.specs.Front.{Fronted, Going, going_of, nothing}
-use Rattle.log_store.specs.Epochs.{later}
+use Rattle.txn_table.specs.Epochs.{later}
 use Rattle.replica.specs.declared.role.Role.{Role}
 use Rattle.replica.specs.declared.role.Role.TheVariants.{Other, Primary}
 use Rattle.replica.specs.declared.step.StepEvent.{StepEvent}

@@ -1,5 +1,5 @@
 ghost use Rattle.std.specs.Prelude.{◌≡◌};
-ghost use Rattle.log_store.specs.Epochs as order;
+ghost use Rattle.txn_table.specs.Epochs as order;
 
 use rc_base::Epoch;
 

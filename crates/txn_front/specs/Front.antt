@@ -89,7 +89,15 @@ called f state call = option_map_or (λ t. option_map_or (λ going. asked f stat
 abbrev pub logged : Fronted → TxnId → Lsn → Fronted
 logged f t lsn = option_map_or (λ going. with_going t.n (record going { last = lsn }) f) (going_of f t) f
 
--- the transaction goes on no more, and its locks go
+-- the transaction goes on no more, and keeps its locks
+abbrev pub done : Fronted → TxnId → Fronted
+done f t = option_map_or (λ going. record f { live = remove_entry (is_at (nat_cmp t.n)) f.live }) (going_of f t) f
+
+-- its locks go
+abbrev pub unlocked : Fronted → TxnId → Fronted
+unlocked f t = record f { grants = released f.grants t }
+
+-- it goes on no more, and its locks go
 abbrev pub ended : Fronted → TxnId → Fronted
 ended f t = option_map_or (λ going. record f { live = remove_entry (is_at (nat_cmp t.n)) f.live; grants = released f.grants t }) (going_of f t) f
 

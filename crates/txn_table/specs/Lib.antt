@@ -1,4 +1,5 @@
 pub mod Commits
+pub mod Epochs
 pub mod Held
 pub mod Log
 pub mod Tables

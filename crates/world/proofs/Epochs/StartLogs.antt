@@ -6,7 +6,7 @@ use Rattle.rc_base.specs.Ids.{epoch_lt}
 use Rattle.log_records.specs.declared.record.Record.TheVariants.{EpochStart}
 use Rattle.txn_table.specs.Log.{Items, commits_in, last_epoch}
 use Rattle.log_store.specs.declared.kept.Kept.{Kept as Log}
-use Rattle.log_store.specs.Epochs.{later}
+use Rattle.txn_table.specs.Epochs.{later}
 use Rattle.replica.specs.declared.step.StepEvent.{StepEvent}
 use Rattle.replica.specs.declared.step.StepEvent.TheVariants as steps
 use Rattle.replica.specs.Open.{Open, AgreesWith, shown_in, commits_to}

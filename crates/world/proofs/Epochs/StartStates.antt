@@ -6,7 +6,7 @@ use Rattle.disk_model.specs.Disk.{Areas, Each}
 use Rattle.txn_table.specs.Log.{commits_in, last_epoch}
 use Rattle.log_store.specs.declared.kept.Kept.{Kept as Log}
 use Rattle.log_store.specs.Durable.{durable, StandForOneOf}
-use Rattle.log_store.specs.Epochs.{later}
+use Rattle.txn_table.specs.Epochs.{later}
 use Rattle.events.specs.declared.event.Event.TheVariants.{Appoint}
 use Rattle.order_machine.specs.declared.observation.Observation.TheVariants as says
 use Rattle.order_machine.specs.Order.{empty_order}

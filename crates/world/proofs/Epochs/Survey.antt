@@ -17,7 +17,7 @@ use Rattle.config_rule.specs.Rule.{Known, is_above, after_answer, with_answer}
 use Rattle.disk_model.specs.Disk.{Areas, Marks}
 use Rattle.log_store.specs.declared.kept.Kept.{Kept as Log}
 use Rattle.log_store.specs.Durable.{StandForOneOf}
-use Rattle.log_store.specs.Epochs.{later}
+use Rattle.txn_table.specs.Epochs.{later}
 use Rattle.events.specs.declared.event.Event.TheVariants.{Survey}
 use Rattle.order_machine.specs.declared.observation.Observation.{Observation}
 use Rattle.order_machine.specs.declared.observation.Observation.TheVariants as says

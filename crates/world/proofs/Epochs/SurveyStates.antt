@@ -15,7 +15,7 @@ use Rattle.log_records.specs.declared.record.Physical.TheVariants.{Fence}
 use Rattle.txn_table.specs.Log.{Items, commits_in, last_epoch}
 use Rattle.log_store.specs.declared.kept.Kept.{Kept as Log}
 use Rattle.log_store.specs.Durable.{durable, StandForOneOf}
-use Rattle.log_store.specs.Epochs.{later}
+use Rattle.txn_table.specs.Epochs.{later}
 use Rattle.log_store.specs.Growth.{after}
 use Rattle.events.specs.declared.event.Event.TheVariants.{Survey}
 use Rattle.order_machine.specs.declared.observation.Observation.TheVariants as says

@@ -13,7 +13,7 @@ use Rattle.disk_model.specs.Disk.{Areas, Follows}
 use Rattle.txn_table.specs.Log.{commits_in}
 use Rattle.log_store.specs.declared.kept.Kept.{Kept as Log}
 use Rattle.log_store.specs.Durable.{durable, StandFor}
-use Rattle.log_store.specs.Epochs.{later}
+use Rattle.txn_table.specs.Epochs.{later}
 use Rattle.log_store.specs.Fold.{no_log}
 use Rattle.log_store.specs.Growth.{new_log}
 use Rattle.log_store.specs.Store.{KeepsOrBegins}
