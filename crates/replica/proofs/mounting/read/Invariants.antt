@@ -1,6 +1,6 @@
 use Rattle.std.proofs.Common.{◌≡◌, take}
 use Rattle.txn_table.specs.Log.{known_in}
-use Rattle.replica.specs.Open as spec
+use Rattle.txn_table.specs.Whole as spec
 use Rattle.replica.specs.Reading.{IsRead}
 use Rattle.replica.proofs.mounting.read.Given as goal
 
