@@ -15,21 +15,21 @@ use Rattle.order_machine.specs.declared.observation.Observation.{Observation}
 use Rattle.order_machine.specs.declared.observation.Observation.TheVariants as says
 use Rattle.order_machine.specs.Machine.{Machine, Role, Txn, Appointment, replica, put_txn, put_grants, grants_of, role_of, put_role, appointment_of, ended_at, closed}
 use Rattle.order_machine.specs.Clients.{answer, seen}
-use Rattle.order_machine.specs.Transitions.{Position, first_epoch, new_role, is_boot, is_call, is_opening, is_reconfiguration, opened, at_start, booting, in_order, appointing, activating, latest_primary, going_at, asking, asking_locks, asking_abort, activating_of, activated, with_first_role, showing, failed, surveyed, answering, answered_by, after, May, MayBeDone, MayIgnoreOldEpoch}
+use Rattle.order_machine.specs.Transitions.{Position, first_epoch, new_role, is_boot, is_call, is_opening, is_reconfiguration, opened, at_start, booting, in_order, appointing, activating, latest_primary, going_at, asking, asking_locks, asking_abort, activating_of, activated, with_first_role, showing, failed, surveyed, answering, answered_by, after, May, MayAnswer, MayBeDone, MayIgnoreOldEpoch}
 use Rattle.order_machine.specs.Legal.{Lines, behind}
 use Rattle.history_laws.specs.QuietCalls.{SettledStay}
 use Rattle.history_laws.specs.Laws.{EventsKeepTexts}
 use Rattle.history_laws.specs.Invariant.Numbering.{Numbering}
 use Rattle.history_laws.proofs.QuietSuffixes.{SettledStay-itself, SettledStay-trans, SettledStay-ended}
 use Rattle.history_laws.proofs.TextSteps.{IsText-settled}
-use Rattle.history_laws.proofs.CallCases.{live_at, aborted, after_answer}
+use Rattle.history_laws.proofs.CallCases.{live_at, aborted, CallCases, after_answer}
 use Rattle.history_laws.proofs.SettledSteps.{settled_live, settled_cases, settled_request}
 
 -- Within an event that began at the machine: what had ended on request stays so; and until a call is answered or cut off by a fault, it has no answer of its own, or
 -- the one that it had as the event began, and the machine is as it was asked.
-record TextState (m : Machine) (p : Position) : Type 0 where
-  stays : SettledStay m.txns p.machine.txns
-  calling : (r : ℕ) (call : Call) → p.event ≡ Client r call → p.answered ≡ false → length p.faulted ≡ 0 → (p.client ≡ None) ⊎ ((p.client ≡ answer m r call) × (p.machine ≡ asking m r call))
+pub record TextState (m : Machine) (p : Position) : Type 0 where
+  pub stays : SettledStay m.txns p.machine.txns
+  pub calling : (r : ℕ) (call : Call) → p.event ≡ Client r call → p.answered ≡ false → length p.faulted ≡ 0 → (p.client ≡ None) ⊎ ((p.client ≡ answer m r call) × (p.machine ≡ asking m r call))
 
 -- ---- calls that were granted
 
@@ -92,29 +92,25 @@ either_same P n None h = h
 either_same P n (Some reply) h = h
 
 -- a call that isn't answered yet, nor cut off
-abbrev Unanswered : Position → Type 0
+abbrev pub Unanswered : Position → Type 0
 Unanswered p = (r : ℕ) (call : Call) → p.event ≡ Client r call → (p.answered ≡ false) × (length p.faulted ≡ 0)
 
-answer_stays : (m : Machine) → Numbering m → (p : Position) → TextState m p → Unanswered p → SettledStay m.txns (answering p).machine.txns
-answer_stays m n p s free = by p.event refl
+-- what holds after each answer holds behind its line
+pub answer_keeps : (P : Machine → Type 0) (m : Machine) → ((r : ℕ) → CallCases P m r) → Numbering m → (p : Position) → TextState m p → Unanswered p → P p.machine → P (answering p).machine
+answer_keeps P m cases n p s free now = by p.event refl
   where
-    stays : Machine → Type 0
-    stays now = SettledStay m.txns now.txns
-
-    client : (r : ℕ) (call : Call) → (p.client ≡ None) ⊎ ((p.client ≡ answer m r call) × (p.machine ≡ asking m r call)) → SettledStay m.txns (option_map_or (answered_by p.machine (Client r call)) p.client p.machine).txns
-    client r call (inl none) = subst (λ (o : Option Reply). SettledStay m.txns (option_map_or (answered_by p.machine (Client r call)) o p.machine).txns) (sym none) s.stays
+    client : (r : ℕ) (call : Call) → (p.client ≡ None) ⊎ ((p.client ≡ answer m r call) × (p.machine ≡ asking m r call)) → P (option_map_or (answered_by p.machine (Client r call)) p.client p.machine)
+    client r call (inl none) = subst (λ (o : Option Reply). P (option_map_or (answered_by p.machine (Client r call)) o p.machine)) (sym none) now
     client r call (inr is) = by_reply p.client refl
       where
-        by_reply : (o : Option Reply) → p.client ≡ o → SettledStay m.txns (option_map_or (answered_by p.machine (Client r call)) o p.machine).txns
-        by_reply None e = s.stays
-        by_reply (Some reply) e =
-            subst (λ (now : Machine). SettledStay m.txns (answered_by now (Client r call) reply).txns) (sym is.1)
-            (after_answer (λ now. SettledStay m.txns now.txns) m r (settled_cases m r) call reply n (sym is.0 ∙ e))
+        by_reply : (o : Option Reply) → p.client ≡ o → P (option_map_or (answered_by p.machine (Client r call)) o p.machine)
+        by_reply None e = now
+        by_reply (Some reply) e = subst (λ (now : Machine). P (answered_by now (Client r call) reply)) (sym is.1) (after_answer P m r (cases r) call reply n (sym is.0 ∙ e))
 
-    same : SettledStay m.txns (option_map_or (λ reply. p.machine) p.client p.machine).txns
-    same = either_same (λ now. SettledStay m.txns now.txns) p.machine p.client s.stays
+    same : P (option_map_or (λ reply. p.machine) p.client p.machine)
+    same = either_same P p.machine p.client now
 
-    by : (event : Event) → p.event ≡ event → SettledStay m.txns (option_map_or (answered_by p.machine event) p.client p.machine).txns
+    by : (event : Event) → p.event ≡ event → P (option_map_or (answered_by p.machine event) p.client p.machine)
     by (Boot q members) e = same
     by (Client r call) e = let f = free r call e in client r call (s.calling r call e f.0 f.1)
     by (Arm r calls) e = same
@@ -126,14 +122,18 @@ answer_stays m n p s free = by p.event refl
     by (Activate of) e = same
 
 answered_line : (m : Machine) → Numbering m → (p : Position) (rank : ℕ) → TextState m p → Unanswered p → TextState m (record (answering p) { rank = rank })
-answered_line m n p rank s free = record { stays = answer_stays m n p s free; calling = λ r call e unanswered. absurd (false≢true (sym unanswered)) }
+answered_line m n p rank s free = record { stays = answer_keeps (λ now. SettledStay m.txns now.txns) m (settled_cases m) n p s free s.stays; calling = λ r call e unanswered. absurd (false≢true (sym unanswered)) }
 
-no_fault : (p : Position) (o : Observation) → May p o → (r : ℕ) (call : Call) → p.event ≡ Client r call → length p.faulted ≡ 0
+pub no_fault : (p : Position) (o : Observation) → May p o → (r : ℕ) (call : Call) → p.event ≡ Client r call → length p.faulted ≡ 0
 no_fault p o h r call e = eqb-true (length p.faulted) 0 (subst (λ (x : Event). (is_boot x || eqb (length p.faulted) 0) ≡ true) e h.goes_on)
+
+-- a line that answers
+pub told : (p : Position) (o : Observation) → May p o → MayAnswer p o → Unanswered p
+told p o h row = λ r call e. (row.1, no_fault p o h r call e)
 
 -- ---- a line
 
-text_line : (m : Machine) → Numbering m → (p : Position) (o : Observation) → TextState m p → May p o → TextState m (after p o)
+pub text_line : (m : Machine) → Numbering m → (p : Position) (o : Observation) → TextState m p → May p o → TextState m (after p o)
 text_line m n p (says.Up r) s h = record { stays = s.stays; calling = λ q call e unanswered faults. absurd (false≢true (subst (λ (x : Event). is_opening x ≡ true) e h.named)) }
 text_line m n p (says.Order t ops) s h = record { stays = s.stays; calling = λ q call e unanswered faults. inl (granted_grows p.event p.client q call e h.named) }
 text_line m n p (says.View r shown) s h =
@@ -149,17 +149,17 @@ text_line m n p (says.Committed t) s h = record { stays = s.stays; calling = λ 
 text_line m n p says.Done s h =
     answered_line m n p 6 s (λ r call e. ((subst (λ (x : Event). MayBeDone p x) e h.row).1, no_fault p says.Done h r call e))
 text_line m n p (says.Refused part) s h = absurd h.row
-text_line m n p (says.Txn t) s h = answered_line m n p 6 s (λ r call e. (h.row.1, no_fault p (says.Txn t) h r call e))
-text_line m n p (says.Down q) s h = answered_line m n p 6 s (λ r call e. (h.row.1, no_fault p (says.Down q) h r call e))
-text_line m n p (says.NotActive q) s h = answered_line m n p 6 s (λ r call e. (h.row.1, no_fault p (says.NotActive q) h r call e))
-text_line m n p (says.Ended t) s h = answered_line m n p 6 s (λ r call e. (h.row.1, no_fault p (says.Ended t) h r call e))
-text_line m n p (says.Locked t) s h = answered_line m n p 6 s (λ r call e. (h.row.1, no_fault p (says.Locked t) h r call e))
-text_line m n p says.True s h = answered_line m n p 6 s (λ r call e. (h.row.1, no_fault p says.True h r call e))
-text_line m n p says.False s h = answered_line m n p 6 s (λ r call e. (h.row.1, no_fault p says.False h r call e))
-text_line m n p (says.Value value) s h = answered_line m n p 6 s (λ r call e. (h.row.1, no_fault p (says.Value value) h r call e))
-text_line m n p says.Missing s h = answered_line m n p 6 s (λ r call e. (h.row.1, no_fault p says.Missing h r call e))
-text_line m n p says.Absent s h = answered_line m n p 6 s (λ r call e. (h.row.1, no_fault p says.Absent h r call e))
-text_line m n p says.WrongKind s h = answered_line m n p 6 s (λ r call e. (h.row.1, no_fault p says.WrongKind h r call e))
+text_line m n p (says.Txn t) s h = answered_line m n p 6 s (told p (says.Txn t) h h.row)
+text_line m n p (says.Down q) s h = answered_line m n p 6 s (told p (says.Down q) h h.row)
+text_line m n p (says.NotActive q) s h = answered_line m n p 6 s (told p (says.NotActive q) h h.row)
+text_line m n p (says.Ended t) s h = answered_line m n p 6 s (told p (says.Ended t) h h.row)
+text_line m n p (says.Locked t) s h = answered_line m n p 6 s (told p (says.Locked t) h h.row)
+text_line m n p says.True s h = answered_line m n p 6 s (told p says.True h h.row)
+text_line m n p says.False s h = answered_line m n p 6 s (told p says.False h h.row)
+text_line m n p (says.Value value) s h = answered_line m n p 6 s (told p (says.Value value) h h.row)
+text_line m n p says.Missing s h = answered_line m n p 6 s (told p says.Missing h h.row)
+text_line m n p says.Absent s h = answered_line m n p 6 s (told p says.Absent h h.row)
+text_line m n p says.WrongKind s h = answered_line m n p 6 s (told p says.WrongKind h h.row)
 text_line m n p (says.Fault r) s h = record {
   stays =
       subst (SettledStay m.txns) (sym (first_role_txns (failed p.machine p.event r) p.event (drop 1 p.mounts) ∙ failed_txns p.machine p.event r))
@@ -225,7 +225,7 @@ called : Call → Event → Call
 called default (Client r call) = call
 called default _ = default
 
-text_opened : (m : Machine) (event : Event) → TextState m (opened m event)
+pub text_opened : (m : Machine) (event : Event) → TextState m (opened m event)
 unfolding called_replica called
 text_opened m (Boot p members) = other_event m (booting m p members) (Boot p members) p (in_order members) refl (SettledStay-itself m.txns)
 text_opened m (Client r call) = record {

@@ -12,3 +12,5 @@ pub mod EarlyReleaseRun
 pub mod NumberingSteps
 pub mod EventLines
 pub mod LineGuards
+pub mod NumberingLines
+pub mod RunTexts

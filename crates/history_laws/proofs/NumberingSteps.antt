@@ -23,15 +23,13 @@ use Rattle.history_laws.proofs.SettledSteps.{put_there}
 
 -- ---- one replica changes
 
+pub numbering_replica : (m : Machine) (r : ℕ) (new : Replica) → ReplicaNumbering m.txns m.appointments r new → Numbering m → Numbering (put_replica m r new)
+numbering_replica m r new here n = record { replicas = at_each (ReplicaNumbering m.txns m.appointments) m.replicas r new never_opened n.replicas here; home = n.home }
+
 -- with the same role, open or closed as before
-numbering_beside : (m : Machine) (r : ℕ) (new : Replica) → new.up ≡ (replica m r).up → new.role ≡ (replica m r).role → Numbering m → Numbering (put_replica m r new)
-numbering_beside m r new up role n = record {
-  replicas = at_each (ReplicaNumbering m.txns m.appointments) m.replicas r new never_opened n.replicas (record {
-    closed = λ down. role ∙ (n.replicas r).closed (sym up ∙ down);
-    role = λ held e. (n.replicas r).role held (sym role ∙ e);
-  });
-  home = n.home;
-}
+pub numbering_beside : (m : Machine) (r : ℕ) (new : Replica) → new.up ≡ (replica m r).up → new.role ≡ (replica m r).role → Numbering m → Numbering (put_replica m r new)
+numbering_beside m r new up role n =
+    numbering_replica m r new (record { closed = λ down. role ∙ (n.replicas r).closed (sym up ∙ down); role = λ held e. (n.replicas r).role held (sym role ∙ e) }) n
 
 -- ---- one transaction is put
 
@@ -53,7 +51,7 @@ module _ (txns : List (TxnId × Txn)) (appointments : List Appointment) (t : Txn
     counted = λ u y found epoch. let w = was_known u y found in old.counted u w.0 w.1 epoch;
   }
 
-numbering_put : (m : Machine) (t : TxnId) (x new : Txn) → txn_of m t ≡ Some x → new.home ≡ x.home → Numbering m → Numbering (put_txn m t new)
+pub numbering_put : (m : Machine) (t : TxnId) (x new : Txn) → txn_of m t ≡ Some x → new.home ≡ x.home → Numbering m → Numbering (put_txn m t new)
 numbering_put m t x new known home n = record {
   replicas = λ r. record { closed = (n.replicas r).closed; role = λ role e. role_put m.txns m.appointments t x new known r role ((n.replicas r).role role e) };
   home = λ u y found. by u y (is_txn u t) refl found;
@@ -124,7 +122,7 @@ module _ (m : Machine) (r : ℕ) (n : Numbering m) (role : Role) (has : role_of 
 
 -- ---- calls
 
-numbering_cases : (m : Machine) (r : ℕ) → Numbering m → CallCases Numbering m r
+pub numbering_cases : (m : Machine) (r : ℕ) → Numbering m → CallCases Numbering m r
 numbering_cases m r n = record {
   same = n;
   quiet = λ t x c known quiet. numbering_put m t x (with_call x c) known refl n;

@@ -13,8 +13,9 @@ use Rattle.order_machine.specs.declared.observation.Observation.{Observation}
 use Rattle.order_machine.specs.Order.{length_of}
 use Rattle.order_machine.specs.Machine.{Machine, Txn, empty_machine, order_of, is_active, is_shown, appointment_of, ops_of, without_role, closed, replica}
 use Rattle.order_machine.specs.Clients.{answer, answered_at}
-use Rattle.order_machine.specs.Transitions.{Position, MayOrder, opened, going_at, asking, asking_commit, showing, acknowledging, appointing, ordering, now_active}
-use Rattle.order_machine.specs.Legal.{Lines, behind}
+use Rattle.order_machine.specs.Transitions.{Position, MayOrder, refusal, opened, going_at, asking, asking_commit, showing, acknowledging, appointing, ordering, now_active}
+use Rattle.order_machine.specs.Legal.{Filter, Step, Lines, behind, IsBegun, moved, IsLegal, moved_all}
+use Rattle.order_laws.specs.Laws.{InEachRun}
 use Rattle.history_laws.specs.Texts.{IsText}
 use Rattle.history_laws.specs.LockGuards.{ContainsRequests, shown_at, ReplicaGuard, IdleReplica, OrderCommits, ShownCommits}
 use Rattle.history_laws.specs.Invariant.Numbering.{Numbering}
@@ -169,3 +170,23 @@ pub record ChangesKeepNumbering : Type 0 where
   pub view : (m : Machine) (r n : ℕ) → Numbering m → Numbering (showing m r n)
   pub acknowledgement : (m : Machine) (r : ℕ) (t : TxnId) → Numbering m → Numbering (acknowledging m r t)
   pub role_end : (m : Machine) (r : ℕ) → Numbering m → Numbering (without_role m r) × Numbering (closed m r)
+
+-- so do the lines of an event that isn't refused, all of them or the first few: the epoch of a boot or an appointment is new, and nothing was begun in it
+abbrev pub LinesKeepNumbering : Type 0
+LinesKeepNumbering = (m : Machine) (event : Event) (lines : List Observation) → Numbering m → refusal m event ≡ None → Lines (opened m event) lines → Numbering (behind (opened m event) lines).machine
+
+-- and each event, also a refused one
+abbrev pub EventsKeepNumbering : Type 0
+EventsKeepNumbering = (m : Machine) (event : Event) (lines : List Observation) → Numbering m → IsBegun m event lines → Numbering (moved m event lines)
+
+-- so the names count on wherever a legal run from the start of a world ends
+abbrev pub RunsKeepNumbering : Type 0
+RunsKeepNumbering = InEachRun Numbering
+
+-- ---- whole runs
+
+-- in each legal run a text at some point of it is one at each later point
+abbrev pub RunsKeepTexts : Type 0
+RunsKeepTexts =
+    (filters : List Filter) (steps later : List Step) → IsLegal filters empty_machine (steps ++ later) → (start : State) (commits : List Committed) → IsText (moved_all empty_machine steps).txns start commits
+    → IsText (moved_all empty_machine (steps ++ later)).txns start commits

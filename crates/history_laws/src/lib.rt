@@ -3,7 +3,7 @@
 #![tactic(auto)]
 
 ghost use Rattle.history_laws.specs.EarlyRelease.{EarlyReleaseIsRefused};
-ghost use Rattle.history_laws.specs.Laws.{AcknowledgementsKeepGuards, AcknowledgementsKeepOthers, ActiveKeepsGuards, BeginningsAreTexts, CallsKeepGuards, CallsKeepIdle, CallsKeepNumbering, CallsKeepRequests, CallsKeepTexts, ChangesKeepNumbering, CommitsLengthenTexts, EmptyIsNumbered, EndedRolesAreIdle, EventsKeepTexts, IdleIsGuarded, NextMayBeOrdered, NothingIsRequestedBefore, OrdersKeepGuards, RequestsAreContained, RequestsArePending, RequestsKeepOthers, RequestsKeepTexts, RoleEndsKeepOthers, RoleEndsKeepRequests, RoleEndsKeepTexts, ShownIsOrdered, ViewsKeepGuards, ViewsKeepOthers};
+ghost use Rattle.history_laws.specs.Laws.{AcknowledgementsKeepGuards, AcknowledgementsKeepOthers, ActiveKeepsGuards, BeginningsAreTexts, CallsKeepGuards, CallsKeepIdle, CallsKeepNumbering, CallsKeepRequests, CallsKeepTexts, ChangesKeepNumbering, CommitsLengthenTexts, EmptyIsNumbered, EndedRolesAreIdle, EventsKeepNumbering, EventsKeepTexts, IdleIsGuarded, LinesKeepNumbering, NextMayBeOrdered, NothingIsRequestedBefore, OrdersKeepGuards, RequestsAreContained, RequestsArePending, RequestsKeepOthers, RequestsKeepTexts, RoleEndsKeepOthers, RoleEndsKeepRequests, RoleEndsKeepTexts, RunsKeepNumbering, RunsKeepTexts, ShownIsOrdered, ViewsKeepGuards, ViewsKeepOthers};
 
 /// A beginning of a text is a text.
 pub fn beginnings_are_texts()
@@ -142,6 +142,23 @@ pub fn calls_keep_numbering()
 /// They count on over requests, views, acknowledgements and ends of roles.
 pub fn changes_keep_numbering()
     ensures { ChangesKeepNumbering }
+{}
+
+/// They count on over the lines of each event, all of them or the first few, and over each event: a boot and an appointment
+/// add an epoch that is new, and a role that has begun nothing.
+pub fn events_keep_numbering()
+    ensures lines { LinesKeepNumbering }
+    ensures event { EventsKeepNumbering }
+{}
+
+/// So they count on behind each run.
+pub fn runs_keep_numbering()
+    ensures { RunsKeepNumbering }
+{}
+
+/// In each run a text at some point of it is one at each later point.
+pub fn runs_keep_texts()
+    ensures { RunsKeepTexts }
 {}
 
 /// The order grows beyond what is shown, and every guard stays.

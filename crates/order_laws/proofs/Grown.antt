@@ -25,7 +25,7 @@ use Rattle.events.specs.Calls.{txn_named}
 use Rattle.order_machine.specs.Transitions.{Position, first_epoch, opened, going_at, asking, asking_locks, appointing, activating_of, activating, failed, surveyed, answering, answered_by, after, ordering, showing, with_first_role, new_role, now_active, activated}
 use Rattle.order_machine.specs.Legal.{Filter, Step, behind, IsBegun, moved, IsLegal, moved_all}
 use Rattle.order_laws.specs.Laws.{entries_of, OrdersGrow}
-use Rattle.order_laws.proofs.Runs.{begun_from_whole, moved_by}
+use Rattle.order_laws.proofs.Runs.{moved_by, run_keeps}
 
 -- ---- growth
 
@@ -203,8 +203,5 @@ grow_moved m event lines h = moved_by (OrdersGrow m) m event lines h (grow_same 
     (λ _ _. grow_more m (opened m event).machine (behind (opened m event) lines).machine (grow_opened m event) (grow_lines (opened m event) lines))
 
 pub grow_run : (filters : List Filter) (m : Machine) (steps : List Step) → IsLegal filters m steps → OrdersGrow m (moved_all m steps)
-grow_run filters m [] h = grow_same m m refl
-grow_run filters m (s ∷ []) h = grow_moved m s.event s.lines h
-grow_run filters m (s ∷ t ∷ steps) h =
-    let next = moved m s.event s.lines in
-    grow_more m next (moved_all next (t ∷ steps)) (grow_moved m s.event s.lines (begun_from_whole m s.event s.lines h.0)) (grow_run filters next (t ∷ steps) h.1)
+grow_run filters m steps h =
+    run_keeps (OrdersGrow m) (λ n event lines grown begun. grow_more m n (moved n event lines) grown (grow_moved n event lines begun)) filters m steps (grow_same m m refl) h

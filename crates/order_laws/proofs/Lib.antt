@@ -1,8 +1,8 @@
-mod Kept
+pub mod Kept
 mod Behind
-mod Steps
-mod Opened
-mod Runs
+pub mod Steps
+pub mod Opened
+pub mod Runs
 mod Grown
 mod Exclusive
 mod OneCommit

@@ -33,11 +33,11 @@ use Rattle.order_laws.proofs.Steps.{KeptAt, IsCalling}
 -- ---- boot
 
 -- a boot that isn't refused is the first
-first_boot : (booted members : Bool) → cond booted (Some (answers.Refused 9)) (cond members None (Some (answers.Refused 2))) ≡ None → booted ≡ false
+pub first_boot : (booted members : Bool) → cond booted (Some (answers.Refused 9)) (cond members None (Some (answers.Refused 2))) ≡ None → booted ≡ false
 first_boot true members h = absurd (cc)
 first_boot false members h = refl
 
-unbooted : (m : Machine) → is_booted m ≡ false → m.appointments ≡ []
+pub unbooted : (m : Machine) → is_booted m ≡ false → m.appointments ≡ []
 unbooted m h = nil_from_length m.appointments (eqb-true (length m.appointments) 0 (not-false (eqb (length m.appointments) 0) h))
 
 kept_booting : (m : Machine) (k : Kept m) (p : ℕ) (members : List ℕ) → m.appointments ≡ [] → Kept (booting m p members)
@@ -203,13 +203,13 @@ is_above_before false above others h = absurd (cc)
 not_itself : (a e : Epoch) → epoch_lt a e ≡ true → is_epoch e a ≡ false
 not_itself a e below = grind (arith, nat_tests)
 
-not_appointed : (e : Epoch) (old : List Appointment) → list_all (λ a. epoch_lt a.epoch e) (map as_appointed old) ≡ true → find (λ a. is_epoch e a.epoch) old ≡ None
+pub not_appointed : (e : Epoch) (old : List Appointment) → list_all (λ a. epoch_lt a.epoch e) (map as_appointed old) ≡ true → find (λ a. is_epoch e a.epoch) old ≡ None
 not_appointed e [] above = refl
 not_appointed e (a ∷ old) above =
     let parts = and_parts (epoch_lt a.epoch e) (list_all (λ b. epoch_lt b.epoch e) (map as_appointed old)) above in
     cond-false (is_epoch e a.epoch) (Some a) (find (λ b. is_epoch e b.epoch) old) (not_itself a.epoch e parts.0) ∙ not_appointed e old parts.1
 
-appointed_last : (e : Epoch) (old : List Appointment) (new : Appointment) → find (λ a. is_epoch e a.epoch) old ≡ None → new.epoch ≡ e → find (λ a. is_epoch e a.epoch) (old ++ new ∷ []) ≡ Some new
+pub appointed_last : (e : Epoch) (old : List Appointment) (new : Appointment) → find (λ a. is_epoch e a.epoch) old ≡ None → new.epoch ≡ e → find (λ a. is_epoch e a.epoch) (old ++ new ∷ []) ≡ Some new
 appointed_last e [] new none same = cond-true (is_epoch e new.epoch) (Some new) None (ap (is_epoch e) same ∙ is_epoch_same e)
 appointed_last e (a ∷ old) new none same =
     elim (cases_Bool (is_epoch e a.epoch)) [

@@ -35,6 +35,18 @@ moved_by P m event lines begun refused served = by_refusal (refusal m event) ref
     by_refusal None e h = served e (Lines_front (opened m event) lines begun.0 h.may)
     by_refusal (Some r) e h = refused
 
+-- ---- runs
+
+-- the first event of a legal run is begun at least, and the others are legal behind it
+pub legal_next : (filters : List Filter) (m : Machine) (s : Step) (steps : List Step) → IsLegal filters m (s ∷ steps) → IsBegun m s.event s.lines × IsLegal filters (moved m s.event s.lines) steps
+legal_next filters m s [] h = (h, tt)
+legal_next filters m s (t ∷ steps) h = (begun_from_whole m s.event s.lines h.0, h.1)
+
+-- what each event keeps, each legal run keeps
+pub run_keeps : (P : Machine → Type 0) → ((m : Machine) (event : Event) (lines : List Observation) → P m → IsBegun m event lines → P (moved m event lines)) → (filters : List Filter) (m : Machine) (steps : List Step) → P m → IsLegal filters m steps → P (moved_all m steps)
+run_keeps P keep filters m [] k h = k
+run_keeps P keep filters m (s ∷ steps) k h = let next = legal_next filters m s steps h in run_keeps P keep filters (moved m s.event s.lines) steps (keep m s.event s.lines k next.0) next.1
+
 -- ---- what is kept
 
 kept_lines : (p : Position) (lines : List Observation) → KeptAt p → Lines p lines → KeptAt (behind p lines)
@@ -44,10 +56,5 @@ kept_lines p (o ∷ lines) k h = kept_lines (after p o) lines (kept_line p o k h
 kept_moved : (m : Machine) (event : Event) (lines : List Observation) → Kept m → IsBegun m event lines → Kept (moved m event lines)
 kept_moved m event lines k h = moved_by Kept m event lines h k (λ none may. (kept_lines (opened m event) lines (kept_opened m k event none) may).machine)
 
-kept_run : (filters : List Filter) (m : Machine) (steps : List Step) → Kept m → IsLegal filters m steps → Kept (moved_all m steps)
-kept_run filters m [] k h = k
-kept_run filters m (s ∷ []) k h = kept_moved m s.event s.lines k h
-kept_run filters m (s ∷ t ∷ steps) k h = kept_run filters (moved m s.event s.lines) (t ∷ steps) (kept_moved m s.event s.lines k (begun_from_whole m s.event s.lines h.0)) h.1
-
 pub kept_world : (filters : List Filter) (steps : List Step) → IsLegal filters empty_machine steps → Kept (moved_all empty_machine steps)
-kept_world filters steps h = kept_run filters empty_machine steps kept_empty h
+kept_world filters steps h = run_keeps Kept kept_moved filters empty_machine steps kept_empty h

@@ -147,7 +147,7 @@ kept_first_role m k (Survey r e) mounts booting = k
 kept_first_role m k (Appoint e p members) mounts booting = k
 kept_first_role m k (Activate e) mounts booting = k
 
-booting_first_role : (m : Machine) (event : Event) (mounts : List ℕ) (r : ℕ) → IsBooting m.txns m.appointments r → IsBooting (with_first_role m event mounts).txns (with_first_role m event mounts).appointments r
+pub booting_first_role : (m : Machine) (event : Event) (mounts : List ℕ) (r : ℕ) → IsBooting m.txns m.appointments r → IsBooting (with_first_role m event mounts).txns (with_first_role m event mounts).appointments r
 booting_first_role m (Boot p members) [] r b = cond_both (replica m p).up (put_role m p (Some (new_role first_epoch))) m (λ x. IsBooting x.txns x.appointments r) (λ _. b) (λ _. b)
 booting_first_role m (Boot p members) (q ∷ mounts) r b = b
 booting_first_role m (Client p call) mounts r b = b
@@ -268,7 +268,7 @@ kept_answered m k (Client r call) (Some reply) calling = by_name (txn_named call
     by_name None e = kept_begin m k r call reply.answer e (ap (option_map (λ x. x.answer)) (sym ((calling r call refl).begins e)))
     by_name (Some t) e = kept_noted m k t (record { call = call; answer = reply.answer; op = reply.op }) (λ x known asked. (calling r call refl).logs t x e known asked)
 
-booting_answered : (m : Machine) (event : Event) (client : Option Reply) (primary : ℕ) (members : List ℕ) → event ≡ Boot primary members → IsBooting m.txns m.appointments primary
+pub booting_answered : (m : Machine) (event : Event) (client : Option Reply) (primary : ℕ) (members : List ℕ) → event ≡ Boot primary members → IsBooting m.txns m.appointments primary
     → IsBooting (option_map_or (answered_by m event) client m).txns (option_map_or (answered_by m event) client m).appointments primary
 booting_answered m event None primary members e b = b
 booting_answered m (Boot p others) (Some reply) primary members e b = b
@@ -337,7 +337,7 @@ kept_failed m k (Survey p e) r = kept_surveyed (closed m r) (kept_closed m k r) 
 kept_failed m k (Appoint e p members) r = kept_closed m k r
 kept_failed m k (Activate e) r = kept_closed m k r
 
-booting_failed : (m : Machine) (event : Event) (r q : ℕ) (members : List ℕ) → event ≡ Boot q members → IsBooting m.txns m.appointments q → IsBooting (failed m event r).txns (failed m event r).appointments q
+pub booting_failed : (m : Machine) (event : Event) (r q : ℕ) (members : List ℕ) → event ≡ Boot q members → IsBooting m.txns m.appointments q → IsBooting (failed m event r).txns (failed m event r).appointments q
 booting_failed m event r q members e b = subst (λ x. IsBooting (failed m x r).txns (failed m x r).appointments q) (sym e) (booting_closed m r q b)
 
 kept_fault : (p : Position) (r : ℕ) → KeptAt p → May p (says.Fault r) → KeptAt (after p (says.Fault r))

@@ -1,5 +1,5 @@
 //! The laws of all transcripts: what every legal run of the machine keeps. Each is the contract of a function that does
-//! nothing. No crate stands on this one.
+//! nothing.
 #![tactic(auto)]
 
 ghost use Rattle.order_laws.specs.Laws as laws;
