@@ -100,7 +100,7 @@ pub trait StateProvider: Sized + Drop {
         ensures sort { IfOk result (λ made. sort made ≡ kind) }
         ensures floor { IfOk result (λ made. least made ≡ v.0) }
         ensures top { IfOk result (λ made. greatest made ≡ v.0) }
-        ensures view { IfOk result (λ made. (w : ℕ) → view made w ≡ contents_of rows.now) }
+        ensures view { IfOk result (λ made. (w : ℕ) → v.0 ≤ w → view made w ≡ contents_of rows.now) }
         ensures bad { IsErrOf result Bad → AreRows kind rows.now → ⊥ };
 
     /// What is asked, at a version that isn't below the floor.
