@@ -1,0 +1,4 @@
+pub mod Scenes
+pub mod Acts
+pub mod Plans
+pub mod ThreeBoot

@@ -1,0 +1,10 @@
+//! The runs of a fleet: what each event does to its replicas, one act after another, and the lines of each act.
+#![tactic(auto)]
+
+ghost use Rattle.fleet_run.specs.ThreeBoot.{ThreeBoot};
+
+/// Three replicas can be booted, with these lines; their primary has logged the start of its epoch, and isn't active: alone it is
+/// no write quorum of the three.
+pub fn three_are_booted()
+    ensures { ThreeBoot }
+{}

@@ -1,0 +1,4 @@
+pub mod OpenReplica
+pub mod Quorums
+pub mod Records
+pub mod Steps
