@@ -1,5 +1,6 @@
 pub mod Activation
 pub mod Appointment
+pub mod AppointmentLimit
 pub mod Previous
 pub mod Rule
 pub mod StartCourse

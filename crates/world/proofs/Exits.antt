@@ -6,4 +6,5 @@ pub mod LentDisk
 pub mod Asides
 pub mod Guards
 pub mod Common
+pub mod Limits
 pub mod RowKinds

@@ -1,5 +1,5 @@
 -- What the handlers of events have in common: which event is refused, what each handler needs, and what it promises.
-use Rattle.std.specs.Prelude.{◌≡◌, ℕ, ◌<◌, ◌≤◌, Bool, List, Option, Some, None, is_some, option_map, Result, IfOk, OnOk, if◌then◌else◌}
+use Rattle.std.specs.Prelude.{◌≡◌, ℕ, ◌+◌, ◌<◌, ◌≤◌, nat_lt, length, Bool, false, List, Option, Some, None, is_some, option_map, Result, IfOk, OnOk, if◌then◌else◌}
 use Rattle.std.specs.Option.{option_map_or}
 use Rattle.rc_base.specs.declared.ids.Epoch.{Epoch}
 use Rattle.rc_base.specs.declared.ids.Lsn.{Lsn}
@@ -14,6 +14,7 @@ use Rattle.order_machine.specs.Machine.{Machine}
 use Rattle.world.specs.declared.error.WorldError.{WorldError}
 use Rattle.world.specs.Fleet.{TellsZero, RoseBy, fault_lines, marks_after}
 use Rattle.world.specs.Kept.{Kept, has_booted}
+use Rattle.world.specs.Limits.{IsServable, most_appointments}
 use Rattle.world.specs.World.{StandsFor, Serves}
 
 -- ---- refusals
@@ -58,6 +59,10 @@ rule_surveyed e r (Some last) rule = option_map (λ known. after_answer known (r
 abbrev pub rule_active : Epoch → Bool → Option Known → Option Known
 rule_active e active rule = if active then option_map (λ known. after_active known e) rule else rule
 
+-- it has taken more appointments than a run has room for, with that of the boot
+abbrev pub is_past_limit : Kept → Bool
+is_past_limit k = option_map_or (λ known. nat_lt (most_appointments + 1) (length known.appointed)) k.rule false
+
 -- ---- a handler
 
 -- The number of an event rises, within the limit, and world and disk stand for a state of the machine.
@@ -66,11 +71,12 @@ pub record IsReady (k : Kept) (images : Areas → Type 0) (number : ℕ) : Type 
   pub within : number ≤ 1000000
   pub stands : (m : Machine) × StandsFor k images m
 
--- What each handler promises of its event: its lines are whole, and world and disk stand for the state after them; the event
--- is counted; no fault of another replica is told, and one of replica 0 only where its disk failed; and the disk is armed and
+-- What each handler promises of its event: its lines are whole, and world and disk stand for the state after them; that is so
+-- only where the event reaches no limit and is built; the event is counted; no fault of another replica is told, and one of replica 0 only where its disk failed; and the disk is armed and
 -- stopped only where the event asks for it.
 pub record Handles {M : Type 0} (images : M → Areas → Type 0) (faults : M → ℕ) (marks : M → Marks) (old new : Kept) (before now : M) (number : ℕ) (event : Event) (result : Result (List Observation) WorldError) : Type 0 where
   pub serves : Serves old new (images before) (images now) event result
+  pub servable : OnOk result ((m : Machine) → StandsFor old (images before) m → IsServable m event)
   pub last : OnOk result (new.last ≡ number)
   pub others : IfOk result TellsZero
   pub counted : RoseBy (fault_lines 0 result) (faults before) (faults now)

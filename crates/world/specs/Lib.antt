@@ -3,6 +3,7 @@ pub mod Running
 pub mod Course
 pub mod Disks
 pub mod Fleet
+pub mod Limits
 pub mod Kept
 pub mod Steps
 pub mod World

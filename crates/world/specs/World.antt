@@ -13,7 +13,7 @@ use Rattle.events.specs.declared.event.Event.TheVariants.{Boot, Client, Arm, Cra
 use Rattle.order_machine.specs.declared.observation.Observation.{Observation}
 use Rattle.order_machine.specs.Order.{Entry, length_of}
 use Rattle.order_machine.specs.Machine.{Machine, Txn, empty_machine, is_booted, order_of}
-use Rattle.order_machine.specs.Legal.{IsWhole, moved}
+use Rattle.order_machine.specs.Legal.{IsWhole, IsBegun, moved}
 use Rattle.replica.specs.declared.role.Role.{Role}
 use Rattle.replica.specs.declared.role.Role.TheVariants.{Other, Primary}
 use Rattle.replica.specs.Open.{Open, AgreesWith, commits_to, shown_in}
@@ -26,6 +26,7 @@ use Rattle.rc_base.specs.declared.ids.Epoch.{Epoch}
 use Rattle.config_rule.specs.Rule.{Known, broken_appointment, after_appointment}
 use Rattle.world.specs.Course.{IsCourse, AreNoted, ArePast, MayFollow, IsFence, IsLogged}
 use Rattle.world.specs.Kept.{Kept, has_booted}
+use Rattle.world.specs.Limits.{limit_reached, IsUnbuilt}
 use Rattle.world.specs.Running.{Runs}
 use Rattle.world.specs.Standing.{Course, standing, resting, shut}
 
@@ -158,8 +159,10 @@ abbrev pub StillHolds : Machine → (Areas → Type 0) → Type 0
 StillHolds m images = is_booted m ≡ true → DiskHolds m 0 images
 
 -- At each state that world and disk stand for, the lines are whole, and world and disk stand for the state after them.
--- The disk still holds what was acknowledged before, also without all lines. No limit is reached so far.
+-- The disk still holds what was acknowledged before, also without all lines. Where the event reaches a limit of the machine or
+-- isn't built there, its lines are a beginning of a whole event's; one that reaches a limit has none.
 abbrev pub Serves : Kept → Kept → (Areas → Type 0) → (Areas → Type 0) → Event → Result (List Observation) WorldError → Type 0
 Serves old new before now event (Ok lines) = (m : Machine) → StandsFor old before m → IsWhole m event lines × StandsFor new now (moved m event lines) × StillHolds m now
 Serves old new before now event (Err errors.NoMemory) = (m : Machine) → StandsFor old before m → StillHolds m now
-Serves old new before now event (Err (errors.Limit which lines)) = ⊥
+Serves old new before now event (Err (errors.Limit which lines)) = (m : Machine) → StandsFor old before m → (limit_reached m event ≡ Some which) × (lines ≡ []) × IsBegun m event lines × StillHolds m now
+Serves old new before now event (Err (errors.Unbuilt lines)) = (m : Machine) → StandsFor old before m → IsUnbuilt m event × IsBegun m event lines × StillHolds m now

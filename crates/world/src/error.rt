@@ -18,6 +18,11 @@ pub enum WorldError {
         which: LimitName,
         lines: Observations,
     },
+    /// The event is read, but isn't built at this machine, after these lines of it.
+    #[error("the event is not built")]
+    Unbuilt {
+        lines: Observations,
+    },
 }
 
 impl From<NoMemory> for WorldError {

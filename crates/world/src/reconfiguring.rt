@@ -4,7 +4,7 @@ ghost use Rattle.config_rule.specs.Rule.{after_answer};
 ghost use Rattle.order_machine.specs.Machine.{Machine};
 ghost use Rattle.events.specs.declared.event.Event.TheVariants.{Survey, Appoint, Activate};
 ghost use Rattle.world.specs.Kept.{Kept};
-ghost use Rattle.world.specs.Handling.{IsReady, Handles, refusal_of, rule_surveyed, rule_active};
+ghost use Rattle.world.specs.Handling.{IsReady, Handles, refusal_of, rule_surveyed, rule_active, is_past_limit};
 ghost use Rattle.world.specs.World.{StandsFor, IsAppointed};
 
 use crate::effects::EventEffects;
@@ -16,8 +16,11 @@ use config_rule::RuleError;
 use disk_model::CrashDisk;
 use events::Replicas;
 use order_machine::{Observation, Observations};
-use rc_base::{Epoch, Lsn, NoMemory, ReplicaId};
+use rc_base::{Epoch, LimitName, Lsn, NoMemory, ReplicaId};
 use replica::StepError;
+
+// So many appointments a run has room for, that of the boot not among them.
+const MOST_APPOINTMENTS: usize = 4096;
 
 impl World {
     pub(crate) fn survey<M: CrashDisk>(
@@ -104,7 +107,17 @@ impl World {
         }
     }
 
-    // The replica, which is open, was appointed as the primary of the epoch.
+    // Whether the rule has taken more appointments than a run has room for.
+    fn is_past_limit(&self) -> bool
+        ensures { result ≡ is_past_limit self.now }
+    {
+        match &self.rule {
+            Some(rule) => rule.appointments() > MOST_APPOINTMENTS + 1,
+            None => false,
+        }
+    }
+
+    // The replica, which is open, was appointed as the primary of the epoch, which it starts where the limit leaves room.
     fn start<M: CrashDisk>(
         &mut self,
         disk: &mut M,
@@ -118,6 +131,12 @@ impl World {
         requires appointed { (before : Kept) × (m : Machine) × IsAppointed before self.old epoch × StandsFor before (M.images disk.old) m }
         ensures { (before : Kept) → IsAppointed before self.old epoch → Handles M.images M.faults M.marks before self.new disk.old disk.new number (Appoint epoch 0 (0 ∷ [])) result }
     {
+        if self.is_past_limit() {
+            return Err(WorldError::Limit {
+                which: LimitName::Epochs,
+                lines: Observations::new(self.alloc),
+            });
+        }
         let mut effects = EventEffects::new(self.alloc, self.order);
         let Some(open) = &mut self.replica else {
             unreachable!();

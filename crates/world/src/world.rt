@@ -6,6 +6,7 @@ ghost use Rattle.replica.specs.Step.{CallFits};
 ghost use Rattle.events.specs.declared.event.Event.TheVariants.{Boot, Client, Arm, Crash, Reboot, Inspect};
 ghost use Rattle.world.specs.Fleet.{images_of, faults_of, marks_of, marks_after, fault_lines, RoseBy};
 ghost use Rattle.world.specs.Kept.{no_events};
+ghost use Rattle.world.specs.Limits.{IsServable};
 ghost use Rattle.world.specs.Handling.{IsReady, Handles, refusal_of, down_in};
 ghost use Rattle.world.specs.World.{StandsFor, IsHere, Serves, StillHolds};
 
@@ -70,7 +71,9 @@ impl World {
     /// was asked.
     ///
     /// # Errors
-    /// `NoMemory` where it is out of memory. The world is dropped then; the disks still hold what was acknowledged.
+    /// `NoMemory` where it is out of memory; `Limit` where the event reaches a limit of the machine, and `Unbuilt` where it
+    /// isn't built there, each with the lines that the event has until then. The world is dropped then; the disks still
+    /// hold what was acknowledged.
     pub fn event<M: CrashDisk>(
         &mut self,
         fleet: &mut Vec<M>,
@@ -83,6 +86,7 @@ impl World {
         requires within { number ≤ 1000000 }
         requires stands { (m : Machine) × StandsFor self.old (images_of M.images fleet.old.items 0) m }
         ensures serves { Serves self.old self.new (images_of M.images fleet.old.items 0) (images_of M.images fleet.new.items 0) event.now result }
+        ensures servable { OnOk result ((m : Machine) → StandsFor self.old (images_of M.images fleet.old.items 0) m → IsServable m event.now) }
         ensures still { (m : Machine) → StandsFor self.old (images_of M.images fleet.old.items 0) m → StillHolds m (images_of M.images fleet.new.items 0) }
         ensures last { OnOk result (self.new.last ≡ number) }
         ensures nine { vec_len fleet.new ≡ 9 }

@@ -45,7 +45,7 @@ appointment_same k m r e p members up =
     ∙ (ap (λ (current : List ℕ). parts_of members e p up (is_above (map as_appointed m.appointments) e) current r.known.answers) r.current
     ∙ ap (λ (answers : List SurveyAnswer). parts_of members e p up (is_above (map as_appointed m.appointments) e) m.config answers) r.answers)
 
-noted_counts : (known : List Appointed) (xs : List Appointment) → AreNoted known xs → length known ≡ length (map as_appointed xs)
+pub noted_counts : (known : List Appointed) (xs : List Appointment) → AreNoted known xs → length known ≡ length (map as_appointed xs)
 noted_counts [] [] h = refl
 noted_counts [] (x ∷ xs) h = absurd h
 noted_counts (k ∷ known) [] h = absurd h

@@ -25,10 +25,12 @@ use Rattle.world.specs.Fleet.{faults_in, fault_lines, RoseBy, TellsZero}
 use Rattle.world.specs.Kept.{Kept, has_booted}
 use Rattle.world.specs.declared.effects.EventEffects.{EventEffects}
 use Rattle.world.specs.Handling.{Handles, rule_active}
+use Rattle.world.specs.Limits.{IsServable}
 use Rattle.world.specs.Steps.{no_effects, effects_started, finished, log_once, log_behind, HoldsSome}
 use Rattle.world.specs.World.{StandsFor, AsReplica, IsOpen, IsAppointed, Serves, StillHolds}
 use Rattle.world.proofs.Epochs.Appointment.{all_lines}
 use Rattle.world.proofs.Exits.FaultCounts.{rose_none, rose_one, fault_first}
+use Rattle.world.proofs.Exits.Limits.{on_ok}
 use Rattle.world.proofs.Exits.Common.{last_of_kept, marks_same, marks_same_after}
 use Rattle.world.proofs.States.Later.{ruled_of, replica_of, booted_stands, up_role}
 use Rattle.world.proofs.Epochs.Rule.{appointment_same}
@@ -38,7 +40,7 @@ use Rattle.events.specs.declared.answer.Answer.TheVariants as answers
 
 -- ---- what it begins with
 
-may_of : (before old : Kept) (e : Epoch) (r : Open) (a : IsAppointed before old e) → old.replica ≡ Some r → MayAppoint before r a.known e
+pub may_of : (before old : Kept) (e : Epoch) (r : Open) (a : IsAppointed before old e) → old.replica ≡ Some r → MayAppoint before r a.known e
 may_of before old e r a is =
     let some : before.replica ≡ Some r = sym (ap (λ (k : Kept). k.replica) a.now_is) ∙ is in
     record { rule = a.rule; some = some; lawful = subst (λ o. broken_appointment a.known e 0 (0 ∷ []) (is_some o) ≡ None) some a.lawful }
@@ -150,13 +152,14 @@ appointed_up before old e a =
 
 pub start_handles : {M : Type 0} (images : M → Areas → Type 0) (faults : M → ℕ) (marks : M → Marks) (before old new : Kept) (disk now : M) (number : ℕ) (r x : Open) (e : Epoch) (effects : EventEffects) (given : List Observation) →
     IsAppointed before old e → old.replica ≡ Some r → old.last < number → AreSame x (record (finished r (start e)) { log = x.log }) → ((log : Log) → IsOpen r log (images disk) → IsOpen x (log_behind r (start e) log) (images now)) → ((log : Log) → IsOpen r log (images disk) → HoldsSome r (start e) log (images now)) →
-    effects ≡ all_effects old.order r e → given ≡ effects.lines → new.last ≡ number → new.rule ≡ rule_active e effects.active old.rule → new.order ≡ effects.order → new.replica ≡ Some x → faults disk ≤ faults now → marks now ≡ marks disk →
+    effects ≡ all_effects old.order r e → given ≡ effects.lines → new.last ≡ number → new.rule ≡ rule_active e effects.active old.rule → new.order ≡ effects.order → new.replica ≡ Some x → faults disk ≤ faults now → marks now ≡ marks disk → ((m : Machine) → StandsFor before (images disk) m → IsServable m (Appoint e 0 (0 ∷ []))) →
     Handles images faults marks before new disk now number (Appoint e 0 (0 ∷ [])) (Ok given)
-start_handles images faults marks before old new disk now number r x e effects given a is rising kept stands holds told lines last rule order replica later same =
+start_handles images faults marks before old new disk now number r x e effects given a is rising kept stands holds told lines last rule order replica later same servable =
     let all : effects.lines ≡ all_lines old.order r = ap (λ (d : EventEffects). d.lines) told in
     subst (λ (ls : List Observation). Handles images faults marks before new disk now number (Appoint e 0 (0 ∷ [])) (Ok ls)) (sym lines)
     (record {
       serves = ok_serves before old new (images disk) (images now) number r x e effects a is rising kept stands holds told last rule order replica;
+      servable = servable;
       last = last;
       others = others_all old.order r effects.lines all;
       counted = rise_all old.order r effects.lines (faults disk) (faults now) all later;
@@ -165,11 +168,12 @@ start_handles images faults marks before old new disk now number r x e effects g
 
 pub cut_handles : {M : Type 0} (images : M → Areas → Type 0) (faults : M → ℕ) (marks : M → Marks) (before old new then : Kept) (disk now : M) (number : ℕ) (r : Open) (e : Epoch) (effects : EventEffects) (result : Result (List Observation) WorldError) →
     IsAppointed before old e → old.replica ≡ Some r → old.last < number → ((log : Log) → IsOpen r log (images disk) → HoldsSome r (start e) log (images now)) → IsCutAt (no_effects old.order) r e effects (images disk) (images now) →
-    IfOk result (λ given. given ≡ effects.lines ++ says.Fault 0 ∷ []) → OnOk result (new ≡ then) → OnErr result (result ≡ Err errors.NoMemory) → then.last ≡ number → then.rule ≡ rule_active e effects.active old.rule → then.order ≡ effects.order → then.replica ≡ None → faults disk ≤ faults now → Rose (faults disk) (faults now) → marks now ≡ marks disk →
+    IfOk result (λ given. given ≡ effects.lines ++ says.Fault 0 ∷ []) → OnOk result (new ≡ then) → OnErr result (result ≡ Err errors.NoMemory) → then.last ≡ number → then.rule ≡ rule_active e effects.active old.rule → then.order ≡ effects.order → then.replica ≡ None → faults disk ≤ faults now → Rose (faults disk) (faults now) → marks now ≡ marks disk → ((m : Machine) → StandsFor before (images disk) m → IsServable m (Appoint e 0 (0 ∷ []))) →
     Handles images faults marks before new disk now number (Appoint e 0 (0 ∷ [])) result
-cut_handles images faults marks before old new then disk now number r e effects result a is rising holds cut told kept memory last rule order replica later rose same = record {
+cut_handles images faults marks before old new then disk now number r e effects result a is rising holds cut told kept memory last rule order replica later rose same servable = record {
   serves = result_serves before new then (images disk) (images now) (Appoint e 0 (0 ∷ [])) (effects.lines ++ says.Fault 0 ∷ []) result told kept memory (short_serves before old (images disk) (images now) r e a is holds)
       (cut_serves before old then (images disk) (images now) number r e effects a is rising holds cut last rule order replica);
+  servable = on_ok result servable;
   last = last_of_kept new then number result kept last;
   others = others_cut_at old.order r e effects (images disk) (images now) result cut told;
   counted = rise_cut old.order r e effects (images disk) (images now) (faults disk) (faults now) result cut later rose told;

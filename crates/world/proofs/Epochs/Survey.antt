@@ -46,6 +46,7 @@ use Rattle.world.proofs.Epochs.Previous.{holds_replica}
 use Rattle.world.proofs.States.Later.{ruled_of, open_of, closed_stands, open_stands, booted_stands, up_role}
 use Rattle.world.proofs.Calls.AtReplica.{shown_low}
 use Rattle.world.proofs.Exits.Common.{result_handles, marks_same}
+use Rattle.world.proofs.Exits.Limits.{servable}
 use Rattle.world.proofs.States.Roleless.{rests_ended}
 use Rattle.world.proofs.Epochs.Rule.{survey_same}
 use Rattle.world.proofs.Epochs.SurveyStates.{IsSurveyed, answered_surveyed, ignored_surveyed, faulted_surveyed, survey_still}
@@ -257,6 +258,7 @@ survey_handles images faults marks k new before now e known r o number effects a
     result_handles images faults marks k new then before now number (Survey 0 e) effects.lines result lines kept memory later same (λ m s. surveyed_still k (images before) (images now) e r (ap is_some rule) some stop m s)
     (record {
       serves = survey_serves k then (images before) (images now) e known r o number effects answered rule above some rising st first told answered_is refl;
+      servable = λ m s. servable m (Survey 0 e) refl;
       last = refl;
       others = λ q. ap (faults_in (suc q)) all ∙ survey_faultless (suc q) r e;
       counted = rose_none (faults before) (faults now) later (faults_in 0 effects.lines) (ap (faults_in 0) all ∙ survey_faultless 0 r e);
@@ -274,6 +276,7 @@ fault_handles images faults marks k new before now e known r number effects resu
     result_handles images faults marks k new then before now number (Survey 0 e) lines result given kept memory later same (λ m s. surveyed_still k (images before) (images now) e r (ap is_some rule) some stop m s)
     (record {
       serves = survey_faulted k then (images before) (images now) e known r number lines rule above some (omega (arith, rising)) stop (ap (λ (d : EventEffects). record k { last = number; order = d.order; replica = None }) none) all;
+      servable = λ m s. servable m (Survey 0 e) refl;
       last = refl;
       others = λ q. ap (faults_in (suc q)) all ∙ fault_first q;
       counted = rose_one (faults before) (faults now) later rose (faults_in 0 lines) (ap (faults_in 0) all);

@@ -10,6 +10,7 @@ use Rattle.world.specs.declared.error.WorldError.TheVariants as errors
 use Rattle.world.specs.Fleet.{TellsZero, faults_in, is_done, marked, marked_by, marks_after}
 use Rattle.world.specs.Handling.{Handles}
 use Rattle.world.specs.Kept.{Kept}
+use Rattle.world.specs.Limits.{IsServable}
 use Rattle.world.specs.World.{StandsFor, StillHolds, Serves}
 use Rattle.world.proofs.Exits.FaultCounts.{rose_none}
 
@@ -32,16 +33,18 @@ marks_same_after event (Err e) marks same = refl
 
 -- an event that has one line, which tells no fault, and leaves the disk alone
 pub kept_handles : {M : Type 0} (images : M → Areas → Type 0) (faults : M → ℕ) (marks : M → Marks) (old new then : Kept) (disk : M) (number : ℕ) (event : Event) (o : Observation) (result : Result (List Observation) WorldError) →
-    IfOk result (λ lines. lines ≡ o ∷ []) → OnOk result (new ≡ then) → then.last ≡ number → ((q : ℕ) → faults_in q (o ∷ []) ≡ 0) → ((x : Marks) → marked_by event (o ∷ []) 0 x ≡ x) → Serves old new (images disk) (images disk) event result → Handles images faults marks old new disk disk number event result
-kept_handles images faults marks old new then disk number event o (Ok lines) told kept last faultless unmarked serves = record {
+    IfOk result (λ lines. lines ≡ o ∷ []) → OnOk result (new ≡ then) → then.last ≡ number → ((q : ℕ) → faults_in q (o ∷ []) ≡ 0) → ((x : Marks) → marked_by event (o ∷ []) 0 x ≡ x) → ((m : Machine) → StandsFor old (images disk) m → IsServable m event) → Serves old new (images disk) (images disk) event result → Handles images faults marks old new disk disk number event result
+kept_handles images faults marks old new then disk number event o (Ok lines) told kept last faultless unmarked servable serves = record {
   serves = serves;
+  servable = servable;
   last = ap (λ (w : Kept). w.last) kept ∙ last;
   others = subst TellsZero (sym told) (λ q. faultless (suc q));
   counted = rose_none (faults disk) (faults disk) (omega arith) (faults_in 0 lines) (ap (faults_in 0) told ∙ faultless 0);
   armed = subst (λ (ls : List Observation). marks disk ≡ marked_by event ls 0 (marks disk)) (sym told) (sym (unmarked (marks disk)));
 }
-kept_handles images faults marks old new then disk number event o (Err e) told kept last faultless unmarked serves = record {
+kept_handles images faults marks old new then disk number event o (Err e) told kept last faultless unmarked servable serves = record {
   serves = serves;
+  servable = tt;
   last = tt;
   others = tt;
   counted = rose_none (faults disk) (faults disk) (omega arith) 0 refl;
@@ -50,15 +53,16 @@ kept_handles images faults marks old new then disk number event o (Err e) told k
 
 -- the same, where it changes nothing but the count of events
 pub line_handles : {M : Type 0} (images : M → Areas → Type 0) (faults : M → ℕ) (marks : M → Marks) (old new : Kept) (disk : M) (number : ℕ) (event : Event) (o : Observation) (result : Result (List Observation) WorldError) →
-    IfOk result (λ lines. lines ≡ o ∷ []) → OnOk result (new ≡ record old { last = number }) → ((q : ℕ) → faults_in q (o ∷ []) ≡ 0) → ((x : Marks) → marked_by event (o ∷ []) 0 x ≡ x) → Serves old new (images disk) (images disk) event result → Handles images faults marks old new disk disk number event result
-line_handles images faults marks old new disk number event o result told kept faultless unmarked serves =
-    kept_handles images faults marks old new (record old { last = number }) disk number event o result told kept refl faultless unmarked serves
+    IfOk result (λ lines. lines ≡ o ∷ []) → OnOk result (new ≡ record old { last = number }) → ((q : ℕ) → faults_in q (o ∷ []) ≡ 0) → ((x : Marks) → marked_by event (o ∷ []) 0 x ≡ x) → ((m : Machine) → StandsFor old (images disk) m → IsServable m event) → Serves old new (images disk) (images disk) event result → Handles images faults marks old new disk disk number event result
+line_handles images faults marks old new disk number event o result told kept faultless unmarked servable serves =
+    kept_handles images faults marks old new (record old { last = number }) disk number event o result told kept refl faultless unmarked servable serves
 
 -- out of memory
 pub short_handles : {M : Type 0} (images : M → Areas → Type 0) (faults : M → ℕ) (marks : M → Marks) (old new : Kept) (before now : M) (number : ℕ) (event : Event) →
     faults before ≤ faults now → marks now ≡ marks before → ((m : Machine) → StandsFor old (images before) m → StillHolds m (images now)) → Handles images faults marks old new before now number event (Err errors.NoMemory)
 short_handles images faults marks old new before now number event later same still = record {
   serves = still;
+  servable = tt;
   last = tt;
   others = tt;
   counted = rose_none (faults before) (faults now) later 0 refl;

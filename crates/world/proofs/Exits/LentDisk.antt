@@ -1,5 +1,5 @@
 -- An event that is lent the first disk of a fleet.
-use Rattle.std.proofs.Common.{◌≡◌, ◌∙◌, sym, subst, ℕ, zero, suc, ◌==◌, true, false, List, [], ◌∷◌, Bool, All, Option, Some, None, ◌-◌, Result, Ok, Err, IfOk, length, get_or, slice_get, slice_set, refl, arith}
+use Rattle.std.proofs.Common.{◌≡◌, ◌∙◌, sym, subst, ℕ, zero, suc, ◌==◌, true, false, List, [], ◌∷◌, Bool, All, Option, Some, None, ◌-◌, Result, Ok, Err, IfOk, OnOk, length, get_or, slice_get, slice_set, refl, arith}
 use Rattle.std.proofs.lemmas.Bool.{false≢true}
 use Rattle.std.proofs.lemmas.List.Elements.{All-head, All-tail}
 use Rattle.disk_model.specs.Disk.{Areas}
@@ -18,6 +18,7 @@ use Rattle.replica.specs.declared.role.Role.TheVariants.{Other, Primary}
 use Rattle.replica.specs.Open.{Open}
 use Rattle.world.specs.Course.{IsOurs}
 use Rattle.world.specs.Kept.{Kept, has_booted}
+use Rattle.world.specs.Limits.{IsServable}
 use Rattle.world.specs.World.{StandsFor, AsReplica, AsRole, IsHere, Serves, StillHolds}
 use Rattle.world.proofs.States.Later.{replica_of, new_of}
 use Rattle.world.proofs.Exits.FaultCounts.{rose_none}
@@ -29,11 +30,16 @@ pub serves_lent : {M : Type 0} (images : M → Areas → Type 0) (items : List M
 serves_lent images [] d d' old new event result nine first s = absurd (nine_none nine)
 serves_lent images (x ∷ xs) d d' old new event result nine first s = subst (λ y. Serves old new (images y) (images d') event result) first s
 
+pub servable_lent : {M : Type 0} (images : M → Areas → Type 0) (items : List M) (d : M) (old : Kept) (event : Event) (result : Result (List Observation) WorldError) → length items ≡ 9 → d ≡ get_or items 0 d → OnOk result ((m : Machine) → StandsFor old (images d) m → IsServable m event) → OnOk result ((m : Machine) → StandsFor old (images_of images items 0) m → IsServable m event)
+servable_lent images [] d old event result nine first s = absurd (nine_none nine)
+servable_lent images (x ∷ xs) d old event result nine first s = subst (λ y. OnOk result ((m : Machine) → StandsFor old (images y) m → IsServable m event)) first s
+
 -- whatever the result, the disk holds what was acknowledged before
 still_by : (old new : Kept) (before now : Areas → Type 0) (event : Event) (result : Result (List Observation) WorldError) → Serves old new before now event result → (m : Machine) → StandsFor old before m → StillHolds m now
 still_by old new before now event (Ok lines) s m stands = (s m stands).2
 still_by old new before now event (Err errors.NoMemory) s m stands = s m stands
-still_by old new before now event (Err (errors.Limit which lines)) s m stands = absurd s
+still_by old new before now event (Err (errors.Limit which lines)) s m stands = (s m stands).3
+still_by old new before now event (Err (errors.Unbuilt lines)) s m stands = (s m stands).2
 
 pub still_lent : {M : Type 0} (images : M → Areas → Type 0) (items : List M) (d d' : M) (old new : Kept) (event : Event) (result : Result (List Observation) WorldError) → length items ≡ 9 → d ≡ get_or items 0 d → Serves old new (images d) (images d') event result → (m : Machine) → StandsFor old (images_of images items 0) m → StillHolds m (images_of images (slice_set items 0 d') 0)
 still_lent images items d d' old new event result nine first s m stands = still_by old new (images_of images items 0) (images_of images (slice_set items 0 d') 0) event result (serves_lent images items d d' old new event result nine first s) m stands

@@ -13,6 +13,7 @@ use Rattle.world.specs.Handling.{Handles}
 use Rattle.world.specs.Kept.{Kept, has_booted}
 use Rattle.world.proofs.Exits.OneLine.{answered_serves, answered_refused}
 use Rattle.world.proofs.Exits.Guards.{unrefused_once}
+use Rattle.world.proofs.Exits.Limits.{servable_refused}
 use Rattle.world.proofs.Exits.Common.{line_handles, short_handles}
 use Rattle.world.proofs.Epochs.StartExits.{IsAsked, appointed_of, refuses_part}
 use Rattle.world.proofs.States.HeldOrder.{stands_still}
@@ -59,6 +60,7 @@ returns g c =
           let broken = w.in-Err-Broken.ensures.broken w.in-Err-Broken.broken (ap Err w.in-Err-Broken.field-0-is) in
           handled_at g.M.Disk.images g.M.Disk.faults g.M.Disk.marks c.args.self.now w.answered.new.self c.match-appoint.self c.args.disk.now c.args.disk.now c.match-appoint.disk c.args.number (Appoint c.args.epoch 0 (0 ∷ [])) w.answered.result c.match-appoint.result w.self-is w.disk-is w.result-is
           (line_handles g.M.Disk.images g.M.Disk.faults g.M.Disk.marks c.args.self.now w.answered.new.self c.args.disk.now c.args.number (Appoint c.args.epoch 0 (0 ∷ [])) (says.Refused part) w.answered.result lines stays (λ q. refl) (λ x. refl)
+          (λ m s. servable_refused m (Appoint c.args.epoch 0 (0 ∷ [])) (answers.Refused part) (refuses_part c.args.self.now (g.M.Disk.images c.args.disk.now) c.args.epoch c.in-Some.rule c.args.primary c.as_slice.result.now c.is_some.result part asked broken m s))
           (answered_serves c.args.self.now w.answered.new.self (g.M.Disk.images c.args.disk.now) (Appoint c.args.epoch 0 (0 ∷ [])) (says.Refused part) c.args.number w.answered.result lines stays done.memory (omega (arith, c.requires.ready.rising))
           (λ m s. answered_refused m (Appoint c.args.epoch 0 (0 ∷ [])) (answers.Refused part) (refuses_part c.args.self.now (g.M.Disk.images c.args.disk.now) c.args.epoch c.in-Some.rule c.args.primary c.as_slice.result.now c.is_some.result part asked broken m s))))
       | in-Err-NoMemory w ↦

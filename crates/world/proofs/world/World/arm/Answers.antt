@@ -5,6 +5,7 @@ use Rattle.world.specs.Kept.{Kept}
 use Rattle.world.specs.Handling.{down_in}
 use Rattle.world.proofs.Exits.FaultCounts.{rose_none}
 use Rattle.world.proofs.Exits.Guards.{unrefused_once, unrefused_up}
+use Rattle.world.proofs.Exits.Limits.{servable}
 use Rattle.world.proofs.Exits.Common.{memory_handles, handed_memory, done_others, done_faultless, marks_of_done}
 use Rattle.world.proofs.States.Later.{some_of}
 use Rattle.world.proofs.Exits.Asides.{arm_does}
@@ -24,6 +25,7 @@ returns g c =
     let there = some_of k.replica (unrefused_up k 0 allowed.1) in
     record {
       serves = arm_does k c.answered.new.self _ _ there.0 c.args.calls c.args.number _ allowed.0 there.1 (omega (arith, c.requires.ready.rising)) c.arm.ensures.stays.no_image_more done.stays done.lines;
+      servable = λ m s. servable m (Arm 0 c.args.calls) refl;
       last = ap (λ (x : Kept). x.last) done.stays;
       others = done_others c.in_ok-lines.lines done.lines;
       counted = rose_none _ _ (let f = c.arm.ensures.stays.same_faults in omega (arith, f)) _ (done_faultless 0 c.in_ok-lines.lines done.lines);

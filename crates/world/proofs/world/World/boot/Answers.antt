@@ -7,6 +7,7 @@ use Rattle.world.specs.Handling.{Handles}
 use Rattle.world.specs.Kept.{Kept}
 use Rattle.world.proofs.Mounts.Boot.{booted_rule, boot_does}
 use Rattle.world.proofs.Exits.Guards.{unrefused_boot}
+use Rattle.world.proofs.Exits.Limits.{servable}
 use Rattle.world.proofs.Exits.Common.{marks_same}
 use Rattle.world.proofs.States.Later.{new_of}
 use Rattle.world.proofs.world.World.boot.Goals as goal
@@ -25,6 +26,7 @@ returns g c =
     subst (λ (ls : List Observation). Handles g.M.Disk.images g.M.Disk.faults g.M.Disk.marks c.args.self.now c.finish.new.self c.args.disk.now c.boot_replica.new.disk c.args.number (Boot 0 (0 ∷ [])) (Ok ls)) (sym c.finish.ensures.lines)
     (record {
       serves = boot_does c.args.self.now c.finish.new.self (g.M.Disk.images c.args.disk.now) (g.M.Disk.images c.boot_replica.new.disk) c.in_ok-self-inside.field-0 effects fresh (let l = ap (λ (k : Kept). k.last) kept in omega (arith, l, c.requires.ready.rising)) (ap (λ (k : Kept). k.rule) kept ∙ ap Some rule) (ap (λ (k : Kept). k.order) kept) (ap (λ (k : Kept). k.replica) kept) (done.whole, done.stands, done.ruled);
+      servable = λ m s. servable m (Boot 0 (0 ∷ [])) refl;
       last = ap (λ (k : Kept). k.last) kept;
       others = done.others;
       counted = done.faults;

@@ -15,6 +15,7 @@ use Rattle.world.specs.World.{IsOpen, StandsFor, Serves}
 use Rattle.world.proofs.Calls.AtWorld.{kept, client_done, client_cut, client_cut_still, client_short, client_down, client_there, client_result}
 use Rattle.world.proofs.Exits.FaultCounts.{faulted_rise, others_told, others_cut, told_faultless, rose_none}
 use Rattle.world.proofs.Exits.Guards.{unrefused_once}
+use Rattle.world.proofs.Exits.Limits.{servable, on_ok}
 use Rattle.world.proofs.Exits.Common.{line_handles, short_handles, last_of_kept, marks_same, marks_same_after}
 use Rattle.world.proofs.States.HeldOrder.{stands_still}
 use Rattle.world.proofs.Calls.AtReplica.{IsDone}
@@ -27,7 +28,7 @@ returns-in_default g c =
     let none : c.args.self.now.replica ≡ None = ap (λ k. k.replica) (sym c.self.view_is) ∙ c.in_default.is in
     let told = subst (λ n. IfOk c.answered.result (λ lines. lines ≡ says.Down n ∷ [])) c.requires.first done.lines in
     let stays = subst (λ (k : Kept). OnOk c.answered.result (c.answered.new.self ≡ record k { last = c.args.number })) c.self.view_is done.stays in
-    line_handles g.M.Disk.images g.M.Disk.faults g.M.Disk.marks c.args.self.now c.answered.new.self c.args.disk.now c.args.number (Client 0 c.args.call.now) (says.Down 0) c.answered.result told stays (λ q. refl) (λ x. refl)
+    line_handles g.M.Disk.images g.M.Disk.faults g.M.Disk.marks c.args.self.now c.answered.new.self c.args.disk.now c.args.number (Client 0 c.args.call.now) (says.Down 0) c.answered.result told stays (λ q. refl) (λ x. refl) (λ m s. servable m (Client 0 c.args.call.now) refl)
     (client_result _ _ (record c.args.self.now { last = c.args.number }) _ _ _ (says.Down 0 ∷ []) _ told stays done.memory (λ m s. stands_still _ _ m s) (client_down _ c.args.number _ _ _ booted none c.requires.ready.rising refl))
 
 pub take_call-requires-clause-stands : goal.take_call-requires-clause-stands
@@ -72,6 +73,7 @@ returns-in-Ok g c =
     subst (λ (ls : List Observation). Handles g.M.Disk.images g.M.Disk.faults g.M.Disk.marks c.args.self.now c.finish.new.self c.args.disk.now c.take_call.new.disk c.args.number (Client 0 call) (Ok ls)) (sym c.finish.ensures.lines)
     (record {
       serves = served;
+      servable = λ m s. servable m (Client 0 call) refl;
       last = ap (λ (k : Kept). k.last) then;
       others = subst TellsZero (sym lines) (others_told r call);
       counted = rose_none _ _ c.in-Ok.ensures.cause.later (faults_in 0 c.take_call.new.effects.lines) (ap (faults_in 0) lines ∙ told_faultless 0 r call);
@@ -95,6 +97,7 @@ returns-in-Err-Disk g c =
       serves = client_result k c.faulted.new.self (kept k c.args.number None effects.order) (g.M.Disk.images c.args.disk.now) (g.M.Disk.images c.take_call.new.disk) call (effects.lines ++ says.Fault 0 ∷ []) c.faulted.result told closed c.faulted.ensures.memory
           (λ m s. client_cut_still k c.args.number r call (g.M.Disk.images c.args.disk.now) (g.M.Disk.images c.take_call.new.disk) effects booted some c.requires.ready.rising c.requires.fits cut m s)
           (client_cut k c.args.number r call (g.M.Disk.images c.args.disk.now) (g.M.Disk.images c.take_call.new.disk) effects booted some c.requires.ready.rising c.requires.fits cut);
+      servable = on_ok c.faulted.result (λ m s. servable m (Client 0 call) refl);
       last = last_of_kept c.faulted.new.self (kept k c.args.number None effects.order) c.args.number c.faulted.result closed refl;
       others = others_cut r call there.0 k.order effects (g.M.Disk.images c.take_call.new.disk) c.faulted.result (cut there.0 there.1) told;
       counted = faulted_rise r call there.0 k.order effects (g.M.Disk.images c.take_call.new.disk) _ _ c.faulted.result (cut there.0 there.1) c.in-Err-Disk.ensures.cause.later (c.in-Err-Disk.ensures.cause.rose (search rules)) told;

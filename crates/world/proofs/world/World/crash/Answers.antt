@@ -4,6 +4,7 @@ use Rattle.events.specs.declared.event.Event.TheVariants.{Crash}
 use Rattle.world.specs.Kept.{Kept, has_booted}
 use Rattle.world.proofs.Exits.FaultCounts.{rose_none}
 use Rattle.world.proofs.Exits.Guards.{unrefused_once}
+use Rattle.world.proofs.Exits.Limits.{servable}
 use Rattle.world.proofs.Exits.Common.{memory_handles, handed_memory, done_others, done_faultless, marks_of_done}
 use Rattle.world.proofs.Mounts.Reboot.{crash_does}
 use Rattle.world.proofs.States.HeldOrder.{stands_still}
@@ -22,6 +23,7 @@ returns g c =
     let later = c.self.view_is ∙ done.stays in
     record {
       serves = crash_does k _ (g.M.Disk.images c.args.disk.now) (g.M.Disk.images c.crash.new.self) (g.M.Disk.seen c.crash.new.self) c.args.pick c.in_ok-lines.lines booted (let l = ap (λ (x : Kept). x.last) later in omega (arith, l, c.requires.ready.rising)) (ap (λ (x : Kept). has_booted x) later ∙ booted) (ap (λ (x : Kept). x.rule) later) (ap (λ (x : Kept). x.order) later) refl c.crash.ensures.left c.crash.ensures.only done.lines;
+      servable = λ m s. servable m (Crash 0 c.args.pick) refl;
       last = ap (λ (x : Kept). x.last) later;
       others = done_others c.in_ok-lines.lines done.lines;
       counted = rose_none _ _ (let f = c.crash.ensures.faults in omega (arith, f)) _ (done_faultless 0 c.in_ok-lines.lines done.lines);

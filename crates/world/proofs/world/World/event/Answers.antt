@@ -1,9 +1,12 @@
 use Rattle.std.proofs.Common.{rules}
-use Rattle.world.proofs.Exits.LentDisk.{serves_lent, still_lent, stands_first, elsewhere_lent, faults_lent}
+use Rattle.world.proofs.Exits.LentDisk.{serves_lent, servable_lent, still_lent, stands_first, elsewhere_lent, faults_lent}
 use Rattle.world.proofs.world.World.event.Goals as goal
 
 pub returns-clause-serves : goal.returns-clause-serves
 returns-clause-serves g c = serves_lent g.M.Disk.images c.args.fleet.now.items _ c.at_zero.new.disk _ _ c.args.event.now c.at_zero.result (search rules) c.index_mut.ensures.value c.at_zero.ensures.serves
+
+pub returns-clause-servable : goal.returns-clause-servable
+returns-clause-servable g c = servable_lent g.M.Disk.images c.args.fleet.now.items _ c.args.self.now c.args.event.now c.at_zero.result (search rules) c.index_mut.ensures.value c.at_zero.ensures.servable
 
 pub returns-clause-still : goal.returns-clause-still
 returns-clause-still g c = still_lent g.M.Disk.images c.args.fleet.now.items _ c.at_zero.new.disk _ _ c.args.event.now c.at_zero.result (search rules) c.index_mut.ensures.value c.at_zero.ensures.serves

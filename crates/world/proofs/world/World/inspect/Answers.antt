@@ -11,6 +11,7 @@ use Rattle.world.specs.Fleet.{faults_in}
 use Rattle.world.specs.Handling.{down_in}
 use Rattle.world.proofs.Exits.FaultCounts.{others_rows, rows_faultless, rose_none}
 use Rattle.world.proofs.Exits.Guards.{unrefused_once, unrefused_up}
+use Rattle.world.proofs.Exits.Limits.{servable}
 use Rattle.world.proofs.Exits.Common.{memory_handles, marks_same}
 use Rattle.world.proofs.Exits.Asides.{inspect_does}
 use Rattle.world.proofs.States.HeldOrder.{stands_still}
@@ -33,6 +34,7 @@ returns g c =
     record {
       serves = inspect_does c.args.self.now _ (g.M.Disk.images c.args.disk.now) c.in-Some.opened c.args.number c.in_ok-lines.lines allowed.0 some (omega (arith, c.requires.ready.rising)) (ap (λ (k : Kept). record k { last = c.args.number }) c.self.view_is)
           (told ∙ (ap (λ (q : ℕ). says.State q (length (rows_of c.contents.result.now)) ∷ map says.Rows (rows_of c.contents.result.now)) c.requires.first ∙ ap (λ (state : State). says.State 0 (length (rows_of state)) ∷ map says.Rows (rows_of state)) c.contents.ensures));
+      servable = λ m s. servable m (Inspect 0) refl;
       last = refl;
       others = others_rows c.args.replica _ _ c.in_ok-lines.lines told;
       counted = rose_none _ _ (omega arith) (faults_in 0 c.in_ok-lines.lines) (ap (faults_in 0) told ∙ rows_faultless 0 (rows_of c.contents.result.now));

@@ -4,6 +4,7 @@ use Rattle.events.specs.declared.event.Event.TheVariants.{Reboot}
 use Rattle.world.specs.Handling.{already_up_in}
 use Rattle.world.specs.Kept.{Kept, has_booted}
 use Rattle.world.proofs.Exits.Guards.{unrefused_once, unrefused_reboot}
+use Rattle.world.proofs.Exits.Limits.{servable}
 use Rattle.world.proofs.Exits.Common.{memory_handles, marks_same}
 use Rattle.world.proofs.States.Later.{none_of, closed_of}
 use Rattle.world.proofs.Mounts.Reboot.{reboot_does, reboot_rise, reboot_others, closed_still}
@@ -28,6 +29,7 @@ returns g c =
     let o = c.in_ok-self-inside.field-0 in
     record {
       serves = reboot_does k _ (g.M.Disk.images c.args.disk.now) (g.M.Disk.images disk) (g.M.Disk.seen disk) o c.new-lines.result c.open_replica.new.lines c.new-lines.ensures allowed.0 none (omega (arith, c.requires.ready.rising)) (ap (λ (x : Kept). has_booted x) c.self.view_is ∙ allowed.0) (ap (λ (x : Kept). x.rule) c.self.view_is) (ap (λ (x : Kept). x.order) c.self.view_is) refl (g.met.M.CrashDisk.tells disk) (g.met.M.Disk.seen_is_image disk) done.stop done.opened done.fresh done.told done.faulted;
+      servable = λ m s. servable m (Reboot 0) refl;
       last = refl;
       others = reboot_others o c.new-lines.result c.open_replica.new.lines c.new-lines.ensures done.told done.faulted;
       counted = reboot_rise o c.new-lines.result c.open_replica.new.lines _ _ c.new-lines.ensures done.told done.faulted done.cause;

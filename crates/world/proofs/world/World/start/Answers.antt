@@ -7,6 +7,7 @@ use Rattle.world.specs.Handling.{rule_active}
 use Rattle.world.specs.Kept.{Kept}
 use Rattle.world.specs.Steps.{no_effects, effects_started}
 use Rattle.world.proofs.Exits.Common.{short_handles}
+use Rattle.world.proofs.Epochs.AppointmentLimit.{has_room, limit_handles}
 use Rattle.world.proofs.Epochs.StartExits.{IsCutAt, all_effects, room_of, appointed_up, start_handles, cut_handles, short_serves}
 use Rattle.world.proofs.world.World.start.Goals as goal
 
@@ -45,6 +46,10 @@ start_epoch-requires-clause-counted g c =
     let w = c.requires.within in
     omega (arith, few, r, w)
 
+pub returns-then-is_past_limit : goal.returns-then-is_past_limit
+returns-then-is_past_limit g c = λ before appointed.
+    limit_handles g.M.Disk.images g.M.Disk.faults g.M.Disk.marks before c.args.self.now c.args.self.now c.args.disk.now c.args.number c.args.epoch c.new.result appointed (sym c.is_past_limit.ensures ∙ c.if-is_past_limit.true) c.new.ensures
+
 pub returns-in-Ok : goal.returns-in-Ok
 returns-in-Ok g c = λ before appointed.
     let some : c.args.self.now.replica ≡ Some c.in-Some.open = ap (λ k. k.replica) (sym c.self.view_is) ∙ c.in-Some.is in
@@ -57,7 +62,7 @@ returns-in-Ok g c = λ before appointed.
     (ap (λ (k : Kept). k.rule) c.finish.ensures.kept ∙ (ap (λ (k : Kept). k.rule) noted ∙ ap (λ (k : Kept). rule_active c.args.epoch c.start_epoch.new.effects.active k.rule) c.self.view_is))
     (ap (λ (k : Kept). k.order) c.finish.ensures.kept)
     (ap (λ (k : Kept). k.replica) c.finish.ensures.kept ∙ ap (λ (k : Kept). k.replica) noted)
-    e.cause.later e.marks
+    e.cause.later e.marks (has_room before c.args.self.now (g.M.Disk.images c.args.disk.now) c.args.epoch appointed (sym c.is_past_limit.ensures ∙ c.if-is_past_limit.false))
 
 pub returns-in-Err-Disk : goal.returns-in-Err-Disk
 returns-in-Err-Disk g c = λ before appointed.
@@ -72,7 +77,7 @@ returns-in-Err-Disk g c = λ before appointed.
     (ap (λ (k : Kept). k.rule) noted ∙ ap (λ (k : Kept). rule_active c.args.epoch c.start_epoch.new.effects.active k.rule) c.self.view_is)
     refl
     refl
-    e.cause.later (e.cause.rose (search rules)) e.marks
+    e.cause.later (e.cause.rose (search rules)) e.marks (has_room before c.args.self.now (g.M.Disk.images c.args.disk.now) c.args.epoch appointed (sym c.is_past_limit.ensures ∙ c.if-is_past_limit.false))
 
 pub returns-in-Err-NoMemory : goal.returns-in-Err-NoMemory
 returns-in-Err-NoMemory g c = λ before appointed.
