@@ -1,6 +1,7 @@
 -- What a run keeps of the disks of its fleet.
 use Rattle.std.proofs.Common.{◌≡◌, ◌∙◌, sym, ap, subst, ℕ, ◌+◌, ◌≤◌, Bool, true, false, List, [], ◌∷◌, ◌++◌, length, Option, Some, None, Result, Ok, Err, refl, inl, inr, arith, ◌==◌, ◌⊎◌, MatchBool}
 use Rattle.std.specs.List.{list_any, All}
+use Rattle.std.specs.Prelude.{OnOk}
 use Rattle.std.proofs.lemmas.Bool.{false≢true, eqb-true}
 use Rattle.std.proofs.lemmas.List.Elements.{All-head}
 use Rattle.rc_base.specs.Quorum.{write_quorum}
@@ -22,9 +23,11 @@ use Rattle.world.specs.Disks.{DiskHolds, DisksHold, QuorumHolds}
 use Rattle.world.specs.Fleet.{images_of, faults_of, marks_of, faults_in, fault_lines, is_done, marked, marked_by, marks_after, RoseBy}
 use Rattle.world.specs.Kept.{Kept, no_events, has_booted}
 use Rattle.world.specs.World.{StandsFor, AsReplica, AsRole, IsRuled, IsNew, StillHolds, Serves}
+use Rattle.world.specs.Limits.{IsServable}
 use Rattle.world.proofs.States.HeldOrder.{stands_still}
 use Rattle.shell.specs.Fleet.{IsFresh, no_bytes, no_marks, faults_told, marks_told, AreTold, AreToldBut, Keeps}
 use Rattle.shell.specs.Reached.{Done}
+use Rattle.shell.proofs.Steps.{step_of}
 
 -- ---- the disks hold what was acknowledged
 
@@ -125,13 +128,14 @@ first_stands images world h e = subst (λ w. StandsFor w images empty_machine) (
 -- what an event did to world and fleet
 pub record Did {M : Type 0} (images : M → Areas → Type 0) (faults : M → ℕ) (marks : M → Marks) (old new : Kept) (was now : List M) (event : Event) (result : Result (List Observation) WorldError) : Type 0 where
   pub serves : Serves old new (images_of images was 0) (images_of images now 0) event result
+  pub servable : OnOk result ((m : Machine) → StandsFor old (images_of images was 0) m → IsServable m event)
   pub still : (m : Machine) → StandsFor old (images_of images was 0) m → StillHolds m (images_of images now 0)
   pub faulted : (r : ℕ) → RoseBy (fault_lines r result) (faults_of faults was r) (faults_of faults now r)
   pub marked : (r : ℕ) → marks_of marks now r ≡ marks_after event result r (marks_of marks was r)
 
 -- where its lines are those that are done
 pub keeps : {M : Type 0} {images : M → Areas → Type 0} {faults : M → ℕ} {marks : M → Marks} {first fleet : List M} (input held now : List ℕ) (before left : List (List ℕ)) (world : Kept) (d : Done images faults marks input held before left first fleet world now) (rest : List (List ℕ)) (status : ℕ) →
-    Keeps images faults marks first fleet d.steps rest status
+    Keeps images faults marks first fleet d.steps None rest status
 keeps {M} {images} {faults} {marks} {first} {fleet} input held now before left world d rest status =
     let m = moved_all empty_machine d.steps in record {
       disks = disks_hold world (images_of images fleet 0) (images_of images fleet) m d.stands (stands_still world (images_of images fleet 0) m d.stands);
@@ -142,7 +146,7 @@ keeps {M} {images} {faults} {marks} {first} {fleet} input held now before left w
 -- where an event followed whose lines aren't among them
 without : {M : Type 0} {images : M → Areas → Type 0} {faults : M → ℕ} {marks : M → Marks} {first was fleet : List M} (input held now : List ℕ) (before left : List (List ℕ)) (old new : Kept) (event : Event) (result : Result (List Observation) WorldError)
     (d : Done images faults marks input held before left first was old now) → Did images faults marks old new was fleet event result → (rest : List (List ℕ)) (status : ℕ) →
-    AreTold d.steps (marks_of marks first) (marks_of marks fleet) ⊎ AreToldBut d.steps rest status (marks_of marks first) (marks_of marks fleet) → Keeps images faults marks first fleet d.steps rest status
+    AreTold d.steps (marks_of marks first) (marks_of marks fleet) ⊎ AreToldBut d.steps rest status (marks_of marks first) (marks_of marks fleet) → Keeps images faults marks first fleet d.steps None rest status
 without {M} {images} {faults} {marks} {first} {was} {fleet} input held now before left old new event result d did rest status armed =
     let m = moved_all empty_machine d.steps in record {
       disks = disks_hold old (images_of images was 0) (images_of images fleet) m d.stands (did.still m d.stands);
@@ -152,16 +156,30 @@ without {M} {images} {faults} {marks} {first} {was} {fleet} input held now befor
 
 -- it was not done
 pub keeps_failed : {M : Type 0} {images : M → Areas → Type 0} {faults : M → ℕ} {marks : M → Marks} {first was fleet : List M} (input held now : List ℕ) (before left : List (List ℕ)) (old new : Kept) (event : Event) (error : WorldError)
-    (d : Done images faults marks input held before left first was old now) → Did images faults marks old new was fleet event (Err error) → (rest : List (List ℕ)) (status : ℕ) → Keeps images faults marks first fleet d.steps rest status
+    (d : Done images faults marks input held before left first was old now) → Did images faults marks old new was fleet event (Err error) → (rest : List (List ℕ)) (status : ℕ) → Keeps images faults marks first fleet d.steps None rest status
 keeps_failed input held now before left old new event error d did rest status =
     without input held now before left old new event (Err error) d did rest status (inl (λ r. did.marked r ∙ d.armed r))
 
+-- it was begun, and these are the lines that it has
+pub keeps_begun : {M : Type 0} {images : M → Areas → Type 0} {faults : M → ℕ} {marks : M → Marks} {first was fleet : List M} (input held now : List ℕ) (before left : List (List ℕ)) (old new : Kept) (number : ℕ) (event : Event) (error : WorldError) (lines : List Observation)
+    (d : Done images faults marks input held before left first was old now) → Did images faults marks old new was fleet event (Err error) → lines ≡ [] → (rest : List (List ℕ)) (status : ℕ) → Keeps images faults marks first fleet d.steps (Some (step_of number event lines)) rest status
+keeps_begun {M} {images} {faults} {marks} {first} {was} {fleet} input held now before left old new number event error lines d did none rest status =
+    let kept = keeps_failed input held now before left old new event error d did rest status in
+    let last = step_of number event lines in
+    let untold : (r : ℕ) → faults_told r (d.steps ++ last ∷ []) ≡ faults_told r d.steps = λ r. let e = faults_more r d.steps last in let f = ap (faults_in r) none in omega (arith, e, f) in
+    let unmarked : (r : ℕ) (k : Marks) → marks_told r (d.steps ++ last ∷ []) k ≡ marks_told r d.steps k = λ r k. marks_more r d.steps last k ∙ ap (λ (ls : List Observation). marked_by event ls r (marks_told r d.steps k)) none in
+    record {
+      disks = kept.disks;
+      faulted = λ r. subst (λ n. RoseBy n (faults_of faults first r) (faults_of faults fleet r)) (sym (untold r)) (kept.faulted r);
+      armed = inl (λ r. did.marked r ∙ (d.armed r ∙ sym (unmarked r (marks_of marks first r))));
+    }
+
 -- it was done, and nothing of its lines was written for want of memory
 pub keeps_unwritten : {M : Type 0} {images : M → Areas → Type 0} {faults : M → ℕ} {marks : M → Marks} {first was fleet : List M} (input held now : List ℕ) (before left : List (List ℕ)) (raw : List ℕ) (old new : Kept) (event : Event) (lines : List Observation)
-    (d : Done images faults marks input held before (raw ∷ left) first was old now) → Did images faults marks old new was fleet event (Ok lines) → Spells (line_text raw) event → Keeps images faults marks first fleet d.steps (raw ∷ left) 8
+    (d : Done images faults marks input held before (raw ∷ left) first was old now) → Did images faults marks old new was fleet event (Ok lines) → Spells (line_text raw) event → Keeps images faults marks first fleet d.steps None (raw ∷ left) 8
 keeps_unwritten {M} {images} {faults} {marks} {first} {was} {fleet} input held now before left raw old new event lines d did spells =
     without input held now before (raw ∷ left) old new event (Ok lines) d did (raw ∷ left) 8 (by (is_done lines) refl)
   where
     by : (b : Bool) → is_done lines ≡ b → AreTold d.steps (marks_of marks first) (marks_of marks fleet) ⊎ AreToldBut d.steps (raw ∷ left) 8 (marks_of marks first) (marks_of marks fleet)
-    by true e = inr (record { memory = refl; raw = raw; others = left; next = refl; event = event; spelled = spells; counts = λ r. (let h = did.marked r in rw e at h) ∙ ap (λ k. marked event r k) (d.armed r) })
+    by true e = inr (record { memory = refl; event = event; spelled = spells; counts = λ r. (let h = did.marked r in rw e at h) ∙ ap (λ k. marked event r k) (d.armed r) })
     by false e = inl (λ r. (let h = did.marked r in rw e at h) ∙ d.armed r)

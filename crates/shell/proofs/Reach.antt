@@ -16,19 +16,21 @@ use Rattle.events.specs.declared.event.Event.{Event}
 use Rattle.script_text.specs.Sentence.{Spells, IsSkipped, IsBad}
 use Rattle.order_machine.specs.declared.observation.Observation.{Observation}
 use Rattle.order_machine.specs.Machine.{empty_machine}
-use Rattle.order_machine.specs.Legal.{moved_all}
+use Rattle.order_machine.specs.Legal.{Step, moved_all}
 use Rattle.transcript_text.specs.Lines.{lines_text, transcript_of}
 use Rattle.world.specs.Fleet.{images_of, faults_of, marks_of, faults_in, marked_by, RoseBy}
+use Rattle.world.specs.declared.error.WorldError.TheVariants as errors
 use Rattle.world.specs.Kept.{Kept}
 use Rattle.world.specs.World.{StandsFor}
 use Rattle.shell.specs.Fleet.{Keeps, faults_told}
 use Rattle.shell.specs.Text.{bad_line_text, limit_line_text}
-use Rattle.shell.specs.Ran.{Ending, AtEnd, AtBadLine, AtLimit, CutShort, Ends, ArePrinted, Begins, IsClean, IsStatusOf, Ran, closing}
+use Rattle.shell.specs.Ran.{Ending, AtEnd, AtBadLine, AtLimit, AtMachineLimit, AtUnbuilt, CutShort, Ends, ArePrinted, Begins, IsClean, IsStatusOf, IsPrintedInPart, Ran, closing}
+use Rattle.shell.specs.Script.{with_last}
 use Rattle.shell.specs.Reached.{Done, Reached, HasEnded, RunEnded, Writes, status_of}
 use Rattle.shell.specs.declared.lines.WriteError.{WriteError}
 use Rattle.shell.specs.declared.lines.WriteError.TheVariants.{Failed, NoMemory}
-use Rattle.shell.proofs.Disks.{Did, keeps, rose_none, rose_more, faults_more, marks_more}
-use Rattle.shell.proofs.Steps.{step_of, skipped_more, spelled_more, all_within, whole_more, moved_more, written_more}
+use Rattle.shell.proofs.Disks.{Did, keeps, keeps_failed, keeps_begun, rose_none, rose_more, faults_more, marks_more}
+use Rattle.shell.proofs.Steps.{step_of, skipped_more, spelled_more, all_within, whole_more, servable_more, moved_more, written_more}
 
 -- ---- the beginning
 
@@ -43,6 +45,7 @@ at_first {M} {images} {faults} {marks} {fleet} input held world s = record {
     within = tt;
     spelled = tt;
     whole = tt;
+    servable = tt;
     stands = s;
     faulted = λ r. rose_none (faults_of faults fleet r);
     armed = λ r. refl;
@@ -56,60 +59,67 @@ at_first {M} {images} {faults} {marks} {fleet} input held world s = record {
 pub one_less : (before : List (List ℕ)) (raw : List ℕ) → length before ≤ length (before ++ raw ∷ [])
 one_less before raw = omega (arith, length-append before (raw ∷ []))
 
--- The run ends where the lines that are done are written, and what closes it is written whole or in part.
-pub closes : {M : Type 0} {images : M → Areas → Type 0} {faults : M → ℕ} {marks : M → Marks} {first was fleet : List M} (input held now : List ℕ) (most : ℕ) (before left : List (List ℕ)) (world : Kept) (holds : Option (List ℕ)) (ending : Ending) (status : ℕ) {T : Type 0} (result : Result T WriteError) → length before ≤ most →
-    (d : Done images faults marks input held before left first was world now) → ((n : ℕ) → Keeps images faults marks first fleet d.steps left n) → Ends ending before left → IsStatusOf ending status → ((part : List ℕ) → Begins (transcript_of d.steps) part → ArePrinted ending d.steps part) →
-    Writes (closing ending (length before + 1)) (Some now) holds result → HasEnded images faults marks input held most first fleet (status_of result status) holds
-closes input held now most before left world holds ending status (Ok t) low d k e s p w =
-    let text = transcript_of d.steps ++ closing ending (length before + 1) in (
-      text,
-      w ∙ ap Some (ap (λ xs. xs ++ closing ending (length before + 1)) d.text ∙ append_assoc held (transcript_of d.steps) (closing ending (length before + 1))),
-      record { before = before; left = left; steps = d.steps; ending = ending; lines = d.cut; within = d.within; spelled = d.spelled; whole = d.whole; ended = e; text = inl (s, refl) },
-      k status,
-      low,
-    )
-closes input held now most before left world holds ending status (Err Failed) low d k e s p w =
-    let last = closing ending (length before + 1) in
-    let part = take w.0 last in (
+-- The run ends where the lines that are done are written, and what is left to write, whole or in part: the lines of an event
+-- that was begun, and what closes the run.
+pub closes : {M : Type 0} {images : M → Areas → Type 0} {faults : M → ℕ} {marks : M → Marks} {first was fleet : List M} (input held now : List ℕ) (most : ℕ) (before left : List (List ℕ)) (world : Kept) (holds : Option (List ℕ)) (last : Option Step) (ending : Ending) (rest : List ℕ) (status : ℕ) {T : Type 0} (result : Result T WriteError) → length before ≤ most →
+    (d : Done images faults marks input held before left first was world now) → ((n : ℕ) → Keeps images faults marks first fleet d.steps last left n) → Keeps images faults marks first fleet d.steps None left 8 → Ends ending before left (moved_all empty_machine d.steps) last → IsStatusOf ending status → ((part : List ℕ) → Begins (transcript_of d.steps) part → ArePrinted ending d.steps part) →
+    transcript_of (with_last d.steps last) ++ closing ending (length before + 1) ≡ transcript_of d.steps ++ rest → Writes rest (Some now) holds result → HasEnded images faults marks input held most first fleet (status_of result status) holds
+closes input held now most before left world holds last ending rest status (Ok t) low d k short e s p all w = (
+  transcript_of d.steps ++ rest,
+  w ∙ ap Some (ap (λ xs. xs ++ rest) d.text ∙ append_assoc held (transcript_of d.steps) rest),
+  record { before = before; left = left; steps = d.steps; last = last; ending = ending; lines = d.cut; within = d.within; spelled = d.spelled; whole = d.whole; servable = d.servable; ended = e; text = inl (s, sym all) },
+  k status,
+  low,
+)
+closes input held now most before left world holds last ending rest status (Err Failed) low d k short e s p all w =
+    let part = take w.0 rest in (
       transcript_of d.steps ++ part,
       w.1 ∙ ap Some (ap (λ xs. xs ++ part) d.text ∙ append_assoc held (transcript_of d.steps) part),
       record {
         before = before;
         left = left;
         steps = d.steps;
+        last = last;
         ending = ending;
         lines = d.cut;
         within = d.within;
         spelled = d.spelled;
         whole = d.whole;
+        servable = d.servable;
         ended = e;
-        text = inr (refl, (drop w.0 last, append_assoc (transcript_of d.steps) part (drop w.0 last) ∙ ap (λ xs. transcript_of d.steps ++ xs) (take-append-drop w.0 last)), p (transcript_of d.steps ++ part) (part, refl));
+        text = inr (record {
+          failed = refl;
+          part = (drop w.0 rest, append_assoc (transcript_of d.steps) part (drop w.0 rest) ∙ (ap (λ xs. transcript_of d.steps ++ xs) (take-append-drop w.0 rest) ∙ sym all));
+          printed = p (transcript_of d.steps ++ part) (part, refl);
+        });
       },
       k 5,
       low,
     )
-closes input held now most before left world holds ending status (Err NoMemory) low d k e s p w = (
+closes input held now most before left world holds last ending rest status (Err NoMemory) low d k short e s p all w = (
   transcript_of d.steps,
   w ∙ ap Some d.text,
   record {
     before = before;
     left = left;
     steps = d.steps;
+    last = None;
     ending = CutShort;
     lines = d.cut;
     within = d.within;
     spelled = d.spelled;
     whole = d.whole;
-    ended = tt;
+    servable = d.servable;
+    ended = refl;
     text = inl (inr refl, sym (append-nil (transcript_of d.steps)));
   },
-  k 8,
+  short,
   low,
 )
 
 -- the run ends with nothing more to write
 pub stops : {M : Type 0} {images : M → Areas → Type 0} {faults : M → ℕ} {marks : M → Marks} {first was fleet : List M} (input held now : List ℕ) (most : ℕ) (before left : List (List ℕ)) (world : Kept) (holds : Option (List ℕ)) (ending : Ending) (status : ℕ) → length before ≤ most →
-    (d : Done images faults marks input held before left first was world now) → Keeps images faults marks first fleet d.steps left status → Ends ending before left → IsStatusOf ending status → closing ending (length before + 1) ≡ [] →
+    (d : Done images faults marks input held before left first was world now) → Keeps images faults marks first fleet d.steps None left status → Ends ending before left (moved_all empty_machine d.steps) None → IsStatusOf ending status → closing ending (length before + 1) ≡ [] →
     holds ≡ Some now → HasEnded images faults marks input held most first fleet status holds
 stops input held now most before left world holds ending status low d k e s c h = (
   transcript_of d.steps,
@@ -118,11 +128,13 @@ stops input held now most before left world holds ending status low d k e s c h 
     before = before;
     left = left;
     steps = d.steps;
+    last = None;
     ending = ending;
     lines = d.cut;
     within = d.within;
     spelled = d.spelled;
     whole = d.whole;
+    servable = d.servable;
     ended = e;
     text = inl (s, sym (ap (λ xs. transcript_of d.steps ++ xs) c ∙ append-nil (transcript_of d.steps)));
   },
@@ -141,6 +153,7 @@ after_skipped input held now before left raw world d l s = record {
   within = all_within before raw d.within l;
   spelled = skipped_more 1 before d.steps raw d.spelled s;
   whole = d.whole;
+  servable = d.servable;
   stands = d.stands;
   faulted = d.faulted;
   armed = d.armed;
@@ -160,6 +173,7 @@ after_event {M} {images} {faults} {marks} {first} {was} {fleet} input held now n
       within = all_within before raw d.within l;
       spelled = spelled_more 1 before d.steps raw s d.spelled (omega arith) spells;
       whole = whole_more [] empty_machine d.steps s d.whole done.0;
+      servable = servable_more empty_machine d.steps s d.servable (did.servable (moved_all empty_machine d.steps) d.stands);
       stands = subst (StandsFor new (images_of images fleet 0)) (sym (moved_more empty_machine d.steps s)) done.1;
       faulted = λ r.
           subst (λ n. RoseBy n (faults_of faults first r) (faults_of faults fleet r)) (sym (faults_more r d.steps s))
@@ -182,22 +196,24 @@ event_cut_off {M} {images} {faults} {marks} {first} {was} {fleet} input held now
         before = before ++ raw ∷ [];
         left = left;
         steps = all.steps;
+        last = None;
         ending = CutShort;
         lines = all.cut;
         within = all.within;
         spelled = all.spelled;
         whole = all.whole;
-        ended = tt;
-        text = inr (
-          refl,
-          (
+        servable = all.servable;
+        ended = refl;
+        text = inr (record {
+          failed = refl;
+          part = (
             drop n text,
             append_assoc (transcript_of d.steps) (take n text) (drop n text)
                 ∙ ap (λ xs. transcript_of d.steps ++ xs) (take-append-drop n text)
                 ∙ sym (append-nil (transcript_of all.steps) ∙ written_more d.steps (step_of number event lines)),
-          ),
-          (d.steps, step_of number event lines, refl, (take n text, refl)),
-        );
+          );
+          printed = (d.steps, step_of number event lines, refl, (take n text, refl));
+        });
       },
       keeps input held (now ++ text) (before ++ raw ∷ []) left new all left 5,
       low,
@@ -214,6 +230,7 @@ at_line input held ahead ahead' now old new world text r g = record {
   within = r.done.within;
   spelled = r.done.spelled;
   whole = r.done.whole;
+  servable = r.done.servable;
   stands = r.done.stands;
   faulted = r.done.faulted;
   armed = r.done.armed;
@@ -240,13 +257,13 @@ next_reached input held ahead ahead' now now' old new world world' text r g n d 
 
 -- the run ends at a bad line
 pub ends_at_bad_line : {M : Type 0} {images : M → Areas → Type 0} {faults : M → ℕ} {marks : M → Marks} {first was fleet : List M} (input held now : List ℕ) (most : ℕ) (before left : List (List ℕ)) (raw : List ℕ) (world : Kept) (old holds : Option (List ℕ)) (number status : ℕ) {T : Type 0} (result : Result T WriteError) →
-    (d : Done images faults marks input held before (raw ∷ left) first was world now) → ((n : ℕ) → Keeps images faults marks first fleet d.steps (raw ∷ left) n) → IsBad (line_text raw) → limit_in (length before) (sum_by length before) raw ≡ None → length before ≤ most → number ≡ length before + 1 → old ≡ Some now →
+    (d : Done images faults marks input held before (raw ∷ left) first was world now) → ((n : ℕ) → Keeps images faults marks first fleet d.steps None (raw ∷ left) n) → IsBad (line_text raw) → limit_in (length before) (sum_by length before) raw ≡ None → length before ≤ most → number ≡ length before + 1 → old ≡ Some now →
     Writes (bad_line_text number) old holds result → status ≡ status_of result 3 → HasEnded images faults marks input held most first fleet status holds
 ends_at_bad_line {M} {images} {faults} {marks} {first} {was} {fleet} input held now most before left raw world old holds number status {T} result d k bad within low at o w s =
     let P : ℕ → Type 0 = λ n. HasEnded images faults marks input held most first fleet n holds in
     let N : ℕ → Type 0 = λ n. Writes (bad_line_text n) (Some now) holds result in
     let O : Option (List ℕ) → Type 0 = λ k. Writes (bad_line_text number) k holds result in
-    subst P (sym s) (closes input held now most before (raw ∷ left) world holds AtBadLine 3 result low d k (bad, within) refl (λ part b. b) (subst N at (subst O o w)))
+    subst P (sym s) (closes input held now most before (raw ∷ left) world holds None AtBadLine (bad_line_text (length before + 1)) 3 result low d k (k 8) (bad, within, refl) refl (λ part b. b) refl (subst N at (subst O o w)))
 
 -- the run ends at a limit
 pub ends_at_limit : {M : Type 0} {images : M → Areas → Type 0} {faults : M → ℕ} {marks : M → Marks} {first fleet : List M} (input held now : List ℕ) (most : ℕ) (before left : List (List ℕ)) (world : Kept) (old holds : Option (List ℕ)) (number status : ℕ) (which : LimitName) {T : Type 0} (result : Result T WriteError) →
@@ -256,7 +273,25 @@ ends_at_limit {M} {images} {faults} {marks} {first} {fleet} input held now most 
     let P : ℕ → Type 0 = λ n. HasEnded images faults marks input held most first fleet n holds in
     let N : ℕ → Type 0 = λ n. Writes (limit_line_text n which) (Some now) holds result in
     let O : Option (List ℕ) → Type 0 = λ k. Writes (limit_line_text number which) k holds result in
-    subst P (sym s) (closes input held now most before left world holds (AtLimit which) 9 result low d (keeps input held now before left world d left) reached refl (λ part b. b) (subst N at (subst O o w)))
+    subst P (sym s) (closes input held now most before left world holds None (AtLimit which) (limit_line_text (length before + 1) which) 9 result low d (keeps input held now before left world d left) (keeps input held now before left world d left 8) (reached, refl) refl (λ part b. b) refl (subst N at (subst O o w)))
+
+-- The run ends at an event that reaches a limit of the machine.
+pub ends_at_machine_limit : {M : Type 0} {images : M → Areas → Type 0} {faults : M → ℕ} {marks : M → Marks} {first was fleet : List M} (input held now : List ℕ) (most : ℕ) (before left : List (List ℕ)) (raw : List ℕ) (world new : Kept) (old holds : Option (List ℕ)) (number status : ℕ) (event : Event) (which : LimitName) (lines : List Observation) {T : Type 0} (result : Result T WriteError) →
+    (d : Done images faults marks input held before (raw ∷ left) first was world now) → Did images faults marks world new was fleet event (Err (errors.Limit which lines)) → Spells (line_text raw) event → limit_in (length before) (sum_by length before) raw ≡ None → length before ≤ most → number ≡ length before + 1 → old ≡ Some now →
+    Writes (lines_text number lines ++ limit_line_text number which) old holds result → status ≡ status_of result 9 → HasEnded images faults marks input held most first fleet status holds
+ends_at_machine_limit {M} {images} {faults} {marks} {first} {was} {fleet} input held now most before left raw world new old holds number status event which lines {T} result d did spells within low at o w s =
+    let P : ℕ → Type 0 = λ n. HasEnded images faults marks input held most first fleet n holds in
+    let N : ℕ → Type 0 = λ n. Writes (lines_text number lines ++ limit_line_text n which) (Some now) holds result in
+    let O : Option (List ℕ) → Type 0 = λ k. Writes (lines_text number lines ++ limit_line_text number which) k holds result in
+    let last = step_of number event lines in
+    let reached = did.serves (moved_all empty_machine d.steps) d.stands in
+    subst P (sym s)
+    (closes input held now most before (raw ∷ left) world holds (Some last) (AtMachineLimit which) (lines_text number lines ++ limit_line_text (length before + 1) which) 9 result low d
+    (keeps_begun input held now before (raw ∷ left) world new number event (errors.Limit which lines) lines d did reached.1 (raw ∷ left))
+    (keeps_failed input held now before (raw ∷ left) world new event (errors.Limit which lines) d did (raw ∷ left) 8)
+    (last, refl, record { number = at; spelled = spells; begun = reached.2; within = within }, reached.0, reached.1) refl (λ part b. b)
+    (ap (λ xs. xs ++ limit_line_text (length before + 1) which) (written_more d.steps last) ∙ append_assoc (transcript_of d.steps) (lines_text number lines) (limit_line_text (length before + 1) which))
+    (subst N at (subst O o w)))
 
 pub eight_four : ◌≡◌ {A = ℕ} 8 4 → ⊥
 eight_four e = cc
@@ -266,7 +301,7 @@ pub nothing_done : {M : Type 0} {images : M → Areas → Type 0} {faults : M �
 nothing_done {M} {images} {faults} {marks} {fleet} input held holds h = (
   [],
   h ∙ ap Some (sym (append-nil held)),
-  record { before = []; left = raw_lines input; steps = []; ending = CutShort; lines = refl; within = tt; spelled = tt; whole = tt; ended = tt; text = inl (inr refl, refl) },
+  record { before = []; left = raw_lines input; steps = []; last = None; ending = CutShort; lines = refl; within = tt; spelled = tt; whole = tt; servable = tt; ended = refl; text = inl (inr refl, refl) },
   record { disks = λ booted. absurd (false≢true booted); faulted = λ r. rose_none (faults_of faults fleet r); armed = inl (λ r. refl) },
   ([], refl, λ four. absurd (eight_four four)),
 )
@@ -346,12 +381,14 @@ failed_read input held now ahead unread before world holds d no_end h =
         before = before;
         left = raw_lines (ahead ++ unread);
         steps = d.steps;
+        last = None;
         ending = CutShort;
         lines = d.cut;
         within = d.within;
         spelled = d.spelled;
         whole = d.whole;
-        ended = tt;
+        servable = d.servable;
+        ended = refl;
         text = inl (inl refl, sym (append-nil (transcript_of d.steps)));
       },
       keeps input held now before (raw_lines (ahead ++ unread)) world d (raw_lines (ahead ++ unread)) 4,
@@ -364,13 +401,15 @@ failed_read input held now ahead unread before world holds d no_end h =
 pub complete : (input : List ℕ) (status : ℕ) (written : List ℕ) → Ran input status written → IsClean input → (status ≡ 4 → ⊥) → (status ≡ 5 → ⊥) → (status ≡ 0) ⊎ (status ≡ 8)
 complete input status written r clean source sink = by_text r.text
   where
-    at : (ending : Ending) → Ends ending r.before r.left → IsStatusOf ending status → (status ≡ 0) ⊎ (status ≡ 8)
+    at : (ending : Ending) → Ends ending r.before r.left (moved_all empty_machine r.steps) r.last → IsStatusOf ending status → (status ≡ 0) ⊎ (status ≡ 8)
     at AtEnd e s = inl s
-    at AtBadLine e s = absurd ((clean r.before r.left r.lines).1 r.steps r.spelled r.whole e.0)
-    at (AtLimit which) e s = absurd (none-some which (sym (clean r.before r.left r.lines).0 ∙ e))
+    at AtBadLine e s = absurd (((clean r.before r.left r.lines).1 r.steps r.spelled r.whole).0 e.0)
+    at (AtLimit which) e s = absurd (none-some which (sym (clean r.before r.left r.lines).0 ∙ e.0))
+    at (AtMachineLimit which) e s = absurd (none-some which (sym (((clean r.before r.left r.lines).1 r.steps r.spelled r.whole).1 e.0.event e.2.spelled).unlimited ∙ e.3))
+    at AtUnbuilt e s = absurd ((((clean r.before r.left r.lines).1 r.steps r.spelled r.whole).1 e.0.event e.2.spelled).is_built e.3)
     at CutShort e (inl s) = absurd (source s)
     at CutShort e (inr s) = inr s
 
-    by_text : {W U V : Type 0} → (IsStatusOf r.ending status × W) ⊎ ((status ≡ 5) × U × V) → (status ≡ 0) ⊎ (status ≡ 8)
+    by_text : {W : Type 0} {all : List ℕ} → (IsStatusOf r.ending status × W) ⊎ IsPrintedInPart r.ending r.steps status written all → (status ≡ 0) ⊎ (status ≡ 8)
     by_text (inl s) = at r.ending r.ended s.0
-    by_text (inr s) = absurd (sink s.0)
+    by_text (inr s) = absurd (sink s.failed)

@@ -11,7 +11,8 @@ use Rattle.order_machine.specs.declared.observation.Observation.{Observation}
 use Rattle.order_machine.specs.Machine.{Machine}
 use Rattle.order_machine.specs.Legal.{Step, Filter, AreWhole, IsWhole, moved, moved_all}
 use Rattle.transcript_text.specs.Lines.{lines_text, transcript_of}
-use Rattle.shell.specs.Script.{AreSteps, AreWithin}
+use Rattle.world.specs.Limits.{IsServable}
+use Rattle.shell.specs.Script.{AreSteps, AreWithin, AreServable}
 
 abbrev pub step_of : ℕ → Event → List Observation → Step
 step_of number event lines = record { number = number; event = event; lines = lines }
@@ -47,6 +48,11 @@ spelled_more n (r ∷ rs) (x ∷ xs) raw s (inr a) e h = inr (a.0, a.1, spelled_
 pub whole_more : (filters : List Filter) (m : Machine) (steps : List Step) (s : Step) → AreWhole filters m steps → IsWhole (moved_all m steps) s.event s.lines → AreWhole filters m (steps ++ s ∷ [])
 whole_more filters m [] s a w = (w, tt)
 whole_more filters m (x ∷ xs) s a w = (a.0, whole_more filters (moved m x.event x.lines) xs s a.1 w)
+
+-- an event more that reaches no limit of the machine
+pub servable_more : (m : Machine) (steps : List Step) (s : Step) → AreServable m steps → IsServable (moved_all m steps) s.event → AreServable m (steps ++ s ∷ [])
+servable_more m [] s a w = (w, tt)
+servable_more m (x ∷ xs) s a w = (a.0, servable_more (moved m x.event x.lines) xs s a.1 w)
 
 -- a line more that reaches no limit
 within_more : (lines given : ℕ) (raws : List (List ℕ)) (raw : List ℕ) → AreWithin lines given raws → limit_in (lines + length raws) (given + sum_by length raws) raw ≡ None → AreWithin lines given (raws ++ raw ∷ [])

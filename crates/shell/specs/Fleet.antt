@@ -1,13 +1,12 @@
 -- What a run does to the disks of its fleet.
 use Rattle.std.specs.Prelude.{◌≡◌, ◌⊎◌, ℕ, ◌+◌, List, [], ◌∷◌, Option, None}
 use Rattle.disk_model.specs.Disk.{Areas, Marks, Each}
-use Rattle.rc_io.specs.Lines.{line_text}
 use Rattle.events.specs.declared.event.Event.{Event}
-use Rattle.script_text.specs.Sentence.{Spells}
 use Rattle.order_machine.specs.Machine.{empty_machine}
 use Rattle.order_machine.specs.Legal.{Step, moved_all}
 use Rattle.world.specs.Disks.{DisksHold}
 use Rattle.world.specs.Fleet.{images_of, faults_of, marks_of, faults_in, marked, marked_by, RoseBy}
+use Rattle.shell.specs.Script.{BeginsWith, with_last}
 
 -- ---- the fleet that a run is handed
 
@@ -46,16 +45,13 @@ AreTold steps before now = (r : ℕ) → now r ≡ marks_told r steps (before r)
 -- where it is out of memory, the event of the next line may count without its line
 pub record AreToldBut (steps : List Step) (left : List (List ℕ)) (status : ℕ) (before now : ℕ → Marks) : Type 0 where
   pub memory : status ≡ 8
-  pub raw : List ℕ
-  pub others : List (List ℕ)
-  pub next : left ≡ raw ∷ others
   pub event : Event
-  pub spelled : Spells (line_text raw) event
+  pub spelled : BeginsWith event left
   pub counts : (r : ℕ) → now r ≡ marked event r (marks_told r steps (before r))
 
 -- However the run ends: the disks hold what was acknowledged; no more faults are told than came; and each disk was armed
--- and stopped as the lines tell.
-pub record Keeps {M : Type 0} (images : M → Areas → Type 0) (faults : M → ℕ) (marks : M → Marks) (before now : List M) (steps : List Step) (left : List (List ℕ)) (status : ℕ) : Type 0 where
+-- and stopped as the lines tell. The lines of an event that was only begun are among them.
+pub record Keeps {M : Type 0} (images : M → Areas → Type 0) (faults : M → ℕ) (marks : M → Marks) (before now : List M) (steps : List Step) (last : Option Step) (left : List (List ℕ)) (status : ℕ) : Type 0 where
   pub disks : DisksHold (moved_all empty_machine steps) (images_of images now)
-  pub faulted : (r : ℕ) → RoseBy (faults_told r steps) (faults_of faults before r) (faults_of faults now r)
-  pub armed : AreTold steps (marks_of marks before) (marks_of marks now) ⊎ AreToldBut steps left status (marks_of marks before) (marks_of marks now)
+  pub faulted : (r : ℕ) → RoseBy (faults_told r (with_last steps last)) (faults_of faults before r) (faults_of faults now r)
+  pub armed : AreTold (with_last steps last) (marks_of marks before) (marks_of marks now) ⊎ AreToldBut steps left status (marks_of marks before) (marks_of marks now)

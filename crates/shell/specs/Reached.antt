@@ -11,7 +11,7 @@ use Rattle.world.specs.Fleet.{images_of, faults_of, marks_of, RoseBy}
 use Rattle.world.specs.Kept.{Kept}
 use Rattle.world.specs.World.{StandsFor}
 use Rattle.shell.specs.Fleet.{faults_told, AreTold, Keeps}
-use Rattle.shell.specs.Script.{AreSteps, AreWithin}
+use Rattle.shell.specs.Script.{AreSteps, AreWithin, AreServable}
 use Rattle.shell.specs.Ran.{Ran, IsRead}
 use Rattle.shell.specs.declared.lines.WriteError.{WriteError}
 use Rattle.shell.specs.declared.lines.WriteError.TheVariants.{Failed, NoMemory}
@@ -24,6 +24,7 @@ pub record Done {M : Type 0} (images : M → Areas → Type 0) (faults : M → �
   pub within : AreWithin 0 0 before
   pub spelled : AreSteps 1 before steps
   pub whole : AreWhole [] empty_machine steps
+  pub servable : AreServable empty_machine steps
   pub stands : StandsFor world (images_of images fleet 0) (moved_all empty_machine steps)
   pub faulted : (r : ℕ) → RoseBy (faults_told r steps) (faults_of faults first r) (faults_of faults fleet r)
   pub armed : AreTold steps (marks_of marks first) (marks_of marks fleet)
@@ -40,12 +41,12 @@ pub record Reached {M : Type 0} (images : M → Areas → Type 0) (faults : M �
 -- so many lines are done.
 abbrev pub HasEnded : {M : Type 0} → (M → Areas → Type 0) → (M → ℕ) → (M → Marks) → List ℕ → List ℕ → ℕ → List M → List M → ℕ → Option (List ℕ) → Type 0
 HasEnded images faults marks input held most first fleet status holds =
-    (written : List ℕ) × (holds ≡ Some (held ++ written)) × (ran : Ran input status written) × Keeps images faults marks first fleet ran.steps ran.left status × (length ran.before ≤ most)
+    (written : List ℕ) × (holds ≡ Some (held ++ written)) × (ran : Ran input status written) × Keeps images faults marks first fleet ran.steps ran.last ran.left status × (length ran.before ≤ most)
 
 -- The same of a whole run, and the source has this left.
 abbrev pub RunEnded : {M : Type 0} → (M → Areas → Type 0) → (M → ℕ) → (M → Marks) → List ℕ → List ℕ → List ℕ → List M → List M → ℕ → Option (List ℕ) → Type 0
 RunEnded images faults marks input held unread first fleet status holds =
-    (written : List ℕ) × (holds ≡ Some (held ++ written)) × (ran : Ran input status written) × Keeps images faults marks first fleet ran.steps ran.left status × IsRead status input ran.before unread
+    (written : List ℕ) × (holds ≡ Some (held ++ written)) × (ran : Ran input status written) × Keeps images faults marks first fleet ran.steps ran.last ran.left status × IsRead status input ran.before unread
 
 -- all of the text is written, or only a part from its front, or nothing where it is out of memory
 abbrev pub Writes : {T : Type 0} → List ℕ → Option (List ℕ) → Option (List ℕ) → Result T WriteError → Type 0

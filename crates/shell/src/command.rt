@@ -12,7 +12,9 @@ ghost use Rattle.script_text.specs.Sentence.{Spells, IsBuilt};
 ghost use Rattle.shell.specs.Reached.{Done, RunEnded, GoesOn, status_of};
 
 use crate::kit::Kit;
-use crate::lines::{WriteError, write_bad_line, write_limit, write_lines, write_usage};
+use crate::lines::{
+    WriteError, write_bad_line, write_limit, write_limited, write_lines, write_unbuilt, write_usage,
+};
 use disk_model::CrashDisk;
 use events::Event;
 use rc_io::{Host, LineReader, Next, Sink, Source};
@@ -39,11 +41,11 @@ use world::{World, WorldError};
 /// |---|---|
 /// | 0 | the input was read to its end |
 /// | 2 | the words are no command; the usage line is written |
-/// | 3 | a bad line that reaches no limit, after the events of the lines before it; `N stop 3` is written |
+/// | 3 | a bad line that reaches no limit, after the events of the lines before it, or an event that is not built, after its lines so far; `N stop 3` is written |
 /// | 4 | the source failed; what was read of it is the lines that were done, and a part of the next one |
 /// | 5 | the sink failed, which holds the first bytes of what was to be written: all lines of the events before the last one |
 /// | 8 | out of memory |
-/// | 9 | a limit is reached; `N stop 9 LIMIT` is written |
+/// | 9 | a limit is reached, in the line itself or by its event at the machine; `N stop 9 LIMIT` is written |
 pub fn run<S: Source, K: Sink, M: CrashDisk, H: Host>(
     alloc: Global,
     words: &[String],
@@ -65,9 +67,10 @@ pub fn run<S: Source, K: Sink, M: CrashDisk, H: Host>(
     // The transcript is one run of the order machine, whose events were done on the disks of the fleet.
     ensures ran { (input held : List ℕ) → map string_bytes words.now ≡ codes "world" ∷ [] → S.left source.old ≡ Some input → K.holds sink.old ≡ Some held →
         (unread written : List ℕ) × (S.left source.new ≡ Some unread) × (K.holds sink.new ≡ Some (held ++ written)) × (ran : Ran input result written)
-        × Keeps M.images M.faults M.marks fleet.old.items fleet.new.items ran.steps ran.left result × IsRead result input ran.before unread }
+        × Keeps M.images M.faults M.marks fleet.old.items fleet.new.items ran.steps ran.last ran.left result × IsRead result input ran.before unread }
 
-    // An input without a bad line and within the limits is done to its end, where neither the source nor the sink fails.
+    // An input without a bad line, within the limits and with no event that isn't built is done to its end, where neither the
+    // source nor the sink fails.
     ensures complete { (input held : List ℕ) → map string_bytes words.now ≡ codes "world" ∷ [] → S.left source.old ≡ Some input → K.holds sink.old ≡ Some held →
         IsClean input → (Rose (S.faults source.old) (S.faults source.new) → ⊥) → (Rose (K.faults sink.old) (K.faults sink.new) → ⊥) → (result ≡ 0) ⊎ (result ≡ 8) }
 
@@ -212,7 +215,14 @@ fn do_event<K: Sink, M: CrashDisk>(
 {
     let lines = match world.event(fleet, number, event) {
         Ok(lines) => lines,
-        Err(WorldError::Limit { .. }) => unreachable!(),
+        Err(WorldError::Limit { which, lines }) => {
+            let written = write_limited(alloc, sink, number, lines.as_slice(), which);
+            return Some(ended(written, 9));
+        }
+        Err(WorldError::Unbuilt { lines }) => {
+            let written = write_unbuilt(alloc, sink, number, lines.as_slice());
+            return Some(ended(written, 3));
+        }
         Err(WorldError::NoMemory) => return Some(8),
     };
     match write_lines(alloc, sink, number, lines.as_slice()) {

@@ -123,6 +123,34 @@ pub fn write_bad_line<K: Sink>(alloc: Global, sink: &mut K, number: u64) -> Resu
     write_text(sink, &line)
 }
 
+/// Writes the lines of an event that isn't built, and the last line of the run, which it ends.
+///
+/// # Errors
+/// `Failed` where the sink failed, which has a part of them then; `NoMemory` where it is out of memory.
+pub fn write_unbuilt<K: Sink>(
+    alloc: Global,
+    sink: &mut K,
+    number: u64,
+    lines: &[Observation],
+) -> Result<(), WriteError>
+    ensures writes { Writes (lines_text number lines.now ++ text.bad_line_text number) (K.holds sink.old) (K.holds sink.new) result }
+    ensures cause { Counted (K.faults sink.old) (K.faults sink.new) (IsErrOf result WriteError.Failed) }
+{
+    let mut text = text_of(alloc, number, lines)?;
+    text.extend_from_slice(&numbered(alloc, number, b" stop 3\n")?)?;
+    write_text(sink, &text)
+}
+
+// The last line of a run that a limit ends.
+fn limit_line(alloc: Global, number: u64, which: LimitName) -> Result<Vec<u8>, AllocError>
+    ensures { IfOk result (λ line. line.items ≡ text.limit_line_text number which) }
+{
+    let mut line = numbered(alloc, number, b" stop 9 ")?;
+    line.extend_from_slice(which.word().as_bytes())?;
+    line.push(b'\n')?;
+    Ok(line)
+}
+
 /// Writes the last line of a run that a limit ends, in the line of this number.
 ///
 /// # Errors
@@ -136,8 +164,25 @@ pub fn write_limit<K: Sink>(
     ensures writes { Writes (text.limit_line_text number which) (K.holds sink.old) (K.holds sink.new) result }
     ensures cause { Counted (K.faults sink.old) (K.faults sink.new) (IsErrOf result WriteError.Failed) }
 {
-    let mut line = numbered(alloc, number, b" stop 9 ")?;
-    line.extend_from_slice(which.word().as_bytes())?;
-    line.push(b'\n')?;
+    let line = limit_line(alloc, number, which)?;
     write_text(sink, &line)
+}
+
+/// Writes the lines of an event that reaches a limit, and the last line of the run, which it ends.
+///
+/// # Errors
+/// `Failed` where the sink failed, which has a part of them then; `NoMemory` where it is out of memory.
+pub fn write_limited<K: Sink>(
+    alloc: Global,
+    sink: &mut K,
+    number: u64,
+    lines: &[Observation],
+    which: LimitName,
+) -> Result<(), WriteError>
+    ensures writes { Writes (lines_text number lines.now ++ text.limit_line_text number which) (K.holds sink.old) (K.holds sink.new) result }
+    ensures cause { Counted (K.faults sink.old) (K.faults sink.new) (IsErrOf result WriteError.Failed) }
+{
+    let mut text = text_of(alloc, number, lines)?;
+    text.extend_from_slice(&limit_line(alloc, number, which)?)?;
+    write_text(sink, &text)
 }

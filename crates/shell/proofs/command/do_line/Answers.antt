@@ -31,4 +31,4 @@ returns-in-Err-BadLine-clause-done g c =
 
 pub returns-in-Err-NoMemory-clause-done : goal.returns-in-Err-NoMemory-clause-done
 returns-in-Err-NoMemory-clause-done g c = λ input held holds before left raw first text at l d h.
-    stops input held holds _ before (raw ∷ left) c.args.world.now _ CutShort 8 (one_less before raw) d (keeps input held holds before (raw ∷ left) c.args.world.now d (raw ∷ left) 8) tt (inr refl) refl h
+    stops input held holds _ before (raw ∷ left) c.args.world.now _ CutShort 8 (one_less before raw) d (keeps input held holds before (raw ∷ left) c.args.world.now d (raw ∷ left) 8) refl (inr refl) refl h

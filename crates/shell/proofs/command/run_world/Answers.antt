@@ -74,7 +74,7 @@ returns-in-End-clause-ran g c = λ input held l h.
     let at = c.loop-number.invariant.reached input held l h in
     let r = at.4 in
     let told = c.in-End.ensures.told at.0 at.2 in
-    let ended = stops input held at.1 (length r.before) r.before _ c.loop-number.world _ AtEnd 0 (omega arith) r.done (keeps input held at.1 r.before _ c.loop-number.world r.done _ 0) (ap raw_lines told.2.0) refl refl at.3 in
+    let ended = stops input held at.1 (length r.before) r.before _ c.loop-number.world _ AtEnd 0 (omega arith) r.done (keeps input held at.1 r.before _ c.loop-number.world r.done _ 0) (ap raw_lines told.2.0, refl) refl refl at.3 in
     (told.0, told.1, ended_read input held c.next.new.self.ahead told.0 r.before _ 0 _ (r.done.cut ∙ ap (λ xs. r.before ++ raw_lines xs) (sym told.2.1.same)) refl (λ four. zero_four four) ended)
 
 pub returns-in-Limit-clause-ran : goal.returns-in-Limit-clause-ran
@@ -102,5 +102,5 @@ returns-in-NoMemory-clause-ran g c = λ input held l h.
     let at = c.loop-number.invariant.reached input held l h in
     let r = at.4 in
     let told = c.in-NoMemory.ensures.told at.0 at.2 in
-    let ended = stops input held at.1 (length r.before) r.before _ c.loop-number.world _ CutShort 8 (omega arith) r.done (keeps input held at.1 r.before _ c.loop-number.world r.done _ 8) tt (inr refl) refl at.3 in
+    let ended = stops input held at.1 (length r.before) r.before _ c.loop-number.world _ CutShort 8 (omega arith) r.done (keeps input held at.1 r.before _ c.loop-number.world r.done _ 8) refl (inr refl) refl at.3 in
     (told.0, told.1, ended_read input held c.next.new.self.ahead told.0 r.before _ 8 _ (r.done.cut ∙ ap (λ xs. r.before ++ raw_lines xs) (sym told.2.same)) refl (λ four. eight_four four) ended)
