@@ -1,1 +1,2 @@
 pub mod BootRun
+pub mod MountMoves
