@@ -1,19 +1,18 @@
 -- Mounts and closings as moves of the replication laws.
-use Rattle.std.proofs.Common.{◌≡◌, ◌∙◌, ℕ, ◌<◌, ◌≤◌, List, [], ◌∷◌, length, map, drop, set, refl, sym, ap, subst, inl, inr, arith}
-use Rattle.std.specs.Prelude.{Contains}
-use Rattle.std.proofs.lemmas.Bool.{cases_eq, cases_Bool}
+use Rattle.std.proofs.Common.{◌≡◌, ◌∙◌, ℕ, ◌<◌, ◌≤◌, List, [], ◌∷◌, length, map, set, refl, sym, ap, subst, inl, inr, arith}
+use Rattle.std.specs.Prelude.{Contains, slice_get, ◌-◌}
+use Rattle.std.specs.List.{list_any}
+use Rattle.std.specs.Option.{option_map_or}
+use Rattle.rc_base.specs.Ids.{is_epoch}
+use Rattle.std.proofs.lemmas.Bool.{cases_eq}
 use Rattle.std.proofs.Math.ListN.{get_or-map}
 use Rattle.std.proofs.lemmas.List.{length-map, get_or-set_same, get_or-set_other}
 use Rattle.log_records.specs.declared.record.Record.{Record}
 use Rattle.txn_table.specs.Whole.{Whole, stable_of}
-use Rattle.events.specs.declared.event.Event.{Event}
-use Rattle.events.specs.declared.event.Event.TheVariants.{Boot, Client, Arm, Crash, Reboot, Inspect, Survey, Appoint, Activate}
 use Rattle.order_machine.specs.declared.observation.Observation.{Observation}
 use Rattle.order_machine.specs.declared.observation.Observation.TheVariants as says
-use Rattle.order_machine.specs.Machine.{Machine, Appointment, replica}
-use Rattle.order_machine.specs.Transitions.{Position, after, with_first_role, showing, failed}
-use Rattle.order_machine.specs.Legal.{behind}
-use Rattle.replica_model.specs.OpenReplica.{OpenReplica, opened_over, view_of}
+use Rattle.order_machine.specs.Machine.{Machine}
+use Rattle.replica_model.specs.OpenReplica.{OpenReplica, opened_over}
 use Rattle.fleet_laws.specs.Fleets.{Fleet, Value, IsValueOf}
 use Rattle.fleet_laws.specs.Moves.{Run, Turn, changed as changed_fleet}
 use Rattle.fleet_laws.specs.Moves.Move.{change}
@@ -22,65 +21,24 @@ use Rattle.fleet_laws.specs.Moves.Turn.{stays, forgets}
 use Rattle.fleet_laws.proofs.Puts.{put_both, first_member, all_one}
 use Rattle.fleet_run.specs.Scenes.{FleetReplica, Scene, replica_at, held_by}
 use Rattle.fleet_run.specs.Scenes.FleetReplica.{Open, Closed}
-use Rattle.fleet_run.specs.Acts.{How, Does, changed_at}
+use Rattle.fleet_run.specs.Acts.{How, Does, changed_at, opening_lines}
 use Rattle.fleet_run.specs.Acts.Act.{Opens, Closes}
 use Rattle.fleet_run.specs.Acts.Does.{opened, unopened, closed}
-use Rattle.fleet_run.specs.Kernel.{Matches, value_of, values_of, role_of}
+use Rattle.fleet_run.proofs.MachineLines.{SameTerms, lines_same}
+use Rattle.fleet_run.specs.Kernel.{Matches, Term, code, value_of, values_of, role_of}
 use Rattle.fleet_run.specs.Laws.{SceneMatches, MovesTo, MountsAreMoves, ClosingsAreMoves}
-
--- ---- what the machine keeps
-
--- the machine has the same appointments and the same configuration
-record SameRule (old new : Machine) : Type 0 where
-  appointments : new.appointments ≡ old.appointments
-  config : new.config ≡ old.config
-
-first_role_same : (m : Machine) (event : Event) (mounts : List ℕ) → SameRule m (with_first_role m event mounts)
-first_role_same m (Boot p members) [] = elim (cases_Bool (replica m p).up) [
-  | inl up ↦ rw (up) record { appointments = refl; config = refl }
-  | inr down ↦ rw (down) record { appointments = refl; config = refl }
-]
-first_role_same m (Boot p members) (r ∷ rs) = record { appointments = refl; config = refl }
-first_role_same m (Client r call) mounts = record { appointments = refl; config = refl }
-first_role_same m (Arm r calls) mounts = record { appointments = refl; config = refl }
-first_role_same m (Crash r pick) mounts = record { appointments = refl; config = refl }
-first_role_same m (Reboot r) mounts = record { appointments = refl; config = refl }
-first_role_same m (Inspect r) mounts = record { appointments = refl; config = refl }
-first_role_same m (Survey r e) mounts = record { appointments = refl; config = refl }
-first_role_same m (Appoint e p members) mounts = record { appointments = refl; config = refl }
-first_role_same m (Activate e) mounts = record { appointments = refl; config = refl }
-
-failed_same : (m : Machine) (event : Event) (r : ℕ) → SameRule m (failed m event r)
-failed_same m (Boot p members) r = record { appointments = refl; config = refl }
-failed_same m (Client q call) r = record { appointments = refl; config = refl }
-failed_same m (Arm q calls) r = record { appointments = refl; config = refl }
-failed_same m (Crash q pick) r = record { appointments = refl; config = refl }
-failed_same m (Reboot q) r = record { appointments = refl; config = refl }
-failed_same m (Inspect q) r = record { appointments = refl; config = refl }
-failed_same m (Survey q e) r = record { appointments = refl; config = refl }
-failed_same m (Appoint e p members) r = record { appointments = refl; config = refl }
-failed_same m (Activate e) r = record { appointments = refl; config = refl }
-
-opening_same : (p : Position) (r n : ℕ) → SameRule p.machine (behind p (says.Up r ∷ says.View r n ∷ [])).machine
-opening_same p r n = let q = after p (says.Up r) in let is = first_role_same (showing q.machine r n) q.event q.mounts in record { appointments = is.appointments; config = is.config }
-
-fault_same : (p : Position) (r : ℕ) → SameRule p.machine (behind p (says.Fault r ∷ [])).machine
-fault_same p r =
-    let broken = failed_same p.machine p.event r in
-    let is = first_role_same (failed p.machine p.event r) p.event (drop 1 p.mounts) in
-    record { appointments = is.appointments ∙ broken.appointments; config = is.config ∙ broken.config }
 
 -- ---- one replica changes
 
-rule_matches : (m n : Machine) (replicas : List FleetReplica) (f : Fleet Record) → SameRule m n → Matches m replicas f → Matches n replicas f
+rule_matches : (m n : Machine) (replicas : List FleetReplica) (f : Fleet Record) → SameTerms m n → Matches m replicas f → Matches n replicas f
 rule_matches m n replicas f rule is = record {
   values = is.values;
   role = is.role;
   no_copy = is.no_copy;
-  appointed = λ e coded. rw (rule.appointments) (is.appointed e coded);
+  appointed = λ e coded. is.appointed e coded ∙ ap (λ (ts : List Term). list_any (λ (t : Term). is_epoch e t.epoch) ts) (sym rule.terms);
   only = is.only;
-  members = λ a there. is.members a (subst (λ (ones : List Appointment). Contains ones a) rule.appointments there);
-  latest = rw (rule.appointments) is.latest;
+  members = λ t there. is.members t (subst (λ (ts : List Term). Contains ts t) rule.terms there);
+  latest = is.latest ∙ ap (λ (ts : List Term). option_map_or (λ (t : Term). code t.epoch) (slice_get ts (length ts - 1)) 0) (sym rule.terms);
   active = is.active ∙ sym rule.config;
 }
 
@@ -151,12 +109,12 @@ mount s f r is within how lines t (opened q ws w down there) =
     let of : IsValueOf f r v = subst (λ (vs : List (Value Record)). Contains vs v) (sym (is.values r ∙ ap values_of down)) (held_value ws w there) in (
       changed_fleet f r (values_of now) (role_of now) 0,
       one_turn f r v v of stays,
-      rule_matches s.position.machine _ (set s.replicas r now) _ (opening_same s.position r (view_of (opened_over r w))) (other_matches s.position.machine s.replicas f r now within is),
+      rule_matches s.position.machine _ (set s.replicas r now) _ (lines_same s.position (opening_lines r (opened_over r w))) (other_matches s.position.machine s.replicas f r now within is),
     )
 mount s f r is within how lines t (unopened q ws down) = (
   f,
   rests,
-  rule_matches s.position.machine _ (set s.replicas r (Closed ws)) f (fault_same s.position r) (same_matches s.position.machine s.replicas f r (Closed ws) within (ap values_of down) (ap role_of down) is),
+  rule_matches s.position.machine _ (set s.replicas r (Closed ws)) f (lines_same s.position (says.Fault r ∷ [])) (same_matches s.position.machine s.replicas f r (Closed ws) within (ap values_of down) (ap role_of down) is),
 )
 
 pub mounts_are_moves : MountsAreMoves

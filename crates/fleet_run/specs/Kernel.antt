@@ -1,11 +1,13 @@
 -- Which abstract fleet of the replication laws a fleet stands for.
-use Rattle.std.specs.Prelude.{◌≡◌, ℕ, ◌<◌, ◌^◌, true, List, [], ◌∷◌, map, Contains, is_some}
+use Rattle.std.specs.Prelude.{◌≡◌, ℕ, ◌-◌, ◌<◌, ◌^◌, true, List, [], ◌∷◌, map, length, slice_get, Contains}
 use Rattle.std.specs.Option.{option_map_or}
+use Rattle.std.specs.List.{list_any}
 use Rattle.rc_base.specs.declared.ids.Epoch.{Epoch}
+use Rattle.rc_base.specs.Ids.{is_epoch}
 use Rattle.log_records.specs.declared.record.Record.{Record}
 use Rattle.log_records.specs.declared.record.Record.TheVariants as records
 use Rattle.txn_table.specs.Whole.{Whole, stable_of}
-use Rattle.order_machine.specs.Machine.{Machine, Appointment, appointment_of, latest_of}
+use Rattle.order_machine.specs.Machine.{Machine, Appointment}
 use Rattle.fleet_laws.specs.Epochs.{epoch_code}
 use Rattle.fleet_laws.specs.Logs.{Entry, Record as Content}
 use Rattle.fleet_laws.specs.Logs.Record.{EpochStart, Barrier, Other}
@@ -52,14 +54,26 @@ role_of (Closed ws) = 0
 
 -- ---- the fleet
 
+-- what the laws see of an appointment: its epoch, and the configuration before its own, and its own
+pub record Term : Type 0 where
+  pub epoch : Epoch
+  pub previous : List ℕ
+  pub current : List ℕ
+
+abbrev pub term_of : Appointment → Term
+term_of a = record { epoch = a.epoch; previous = a.previous; current = a.current }
+
+abbrev pub terms_of : Machine → List Term
+terms_of m = map term_of m.appointments
+
 -- The machine and the replicas stand for an abstract fleet: with the same values and roles, and the same appointments and configurations. No copy is in
 -- progress.
 pub record Matches (m : Machine) (replicas : List FleetReplica) (f : Fleet Record) : Type 0 where
   pub values : (r : ℕ) → f.values r ≡ values_of (replica_at replicas r)
   pub role : (r : ℕ) → f.role r ≡ role_of (replica_at replicas r)
   pub no_copy : (r : ℕ) → f.copying r ≡ 0
-  pub appointed : (e : Epoch) → IsCoded e → f.appointed (code e) ≡ is_some (appointment_of m e)
+  pub appointed : (e : Epoch) → IsCoded e → f.appointed (code e) ≡ list_any (λ t. is_epoch e t.epoch) (terms_of m)
   pub only : (n : ℕ) → f.appointed n ≡ true → (e : Epoch) × IsCoded e × (code e ≡ n)
-  pub members : (a : Appointment) → Contains m.appointments a → (f.current (code a.epoch) ≡ a.current) × (f.previous (code a.epoch) ≡ a.previous)
-  pub latest : f.latest ≡ option_map_or (λ a. code a.epoch) (latest_of m) 0
+  pub members : (t : Term) → Contains (terms_of m) t → (f.current (code t.epoch) ≡ t.current) × (f.previous (code t.epoch) ≡ t.previous)
+  pub latest : f.latest ≡ option_map_or (λ t. code t.epoch) (slice_get (terms_of m) (length (terms_of m) - 1)) 0
   pub active : f.current f.active ≡ m.config

@@ -1,7 +1,7 @@
 //! The runs of a fleet: what each event does to its replicas, one act after another, and the lines of each act.
 #![tactic(auto)]
 
-ghost use Rattle.fleet_run.specs.Laws.{ClosingsAreMoves, FirstMatches, MountsAreMoves};
+ghost use Rattle.fleet_run.specs.Laws.{ClosingsAreMoves, FirstMatches, LinesKeepTerms, MountsAreMoves};
 ghost use Rattle.fleet_run.specs.ThreeBoot.{ThreeBoot};
 
 /// Three replicas can be booted, with these lines; their primary has logged the start of its epoch, and isn't active: alone it is
@@ -23,4 +23,9 @@ pub fn mounts_are_moves()
 /// So is a closing.
 pub fn closings_are_moves()
     ensures { ClosingsAreMoves }
+{}
+
+/// Every line of an event leaves the epochs and the configurations that were appointed.
+pub fn lines_keep_terms()
+    ensures { LinesKeepTerms }
 {}
