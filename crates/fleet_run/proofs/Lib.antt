@@ -1,1 +1,3 @@
 pub mod BootRun
+pub mod MachineLines
+pub mod MountMoves

@@ -23,10 +23,6 @@ pub record Scene : Type 0 where
   pub position : Position
   pub replicas : List FleetReplica
 
--- replica r; past the last one there is nothing that a disk may hold
-abbrev pub replica_at : List FleetReplica → ℕ → FleetReplica
-replica_at replicas r = get_or replicas r (Closed [])
-
 -- what the disk of a replica may hold, once it is closed
 abbrev pub held_by : FleetReplica → List Whole
 held_by (Open o) = o.disk ∷ []
@@ -37,6 +33,10 @@ held_by (Closed ws) = ws
 -- a log that was never written
 abbrev pub empty_whole : Whole
 empty_whole = record { start = no_base; log = []; head = 0; base = 0; fence = no_epoch }
+
+-- replica r; past the last one, one that was never opened
+abbrev pub replica_at : List FleetReplica → ℕ → FleetReplica
+replica_at replicas r = get_or replicas r (Closed (empty_whole ∷ []))
 
 -- nine closed replicas with such logs
 abbrev pub first_state : FleetState
