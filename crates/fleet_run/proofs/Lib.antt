@@ -1,3 +1,4 @@
 pub mod BootRun
 pub mod MachineLines
 pub mod MountMoves
+pub mod SurveyMoves

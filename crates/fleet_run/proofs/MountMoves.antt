@@ -30,7 +30,7 @@ use Rattle.fleet_run.specs.Laws.{SceneMatches, MovesTo, MountsAreMoves, Closings
 
 -- ---- one replica changes
 
-rule_matches : (m n : Machine) (replicas : List FleetReplica) (f : Fleet Record) → SameTerms m n → Matches m replicas f → Matches n replicas f
+pub rule_matches : (m n : Machine) (replicas : List FleetReplica) (f : Fleet Record) → SameTerms m n → Matches m replicas f → Matches n replicas f
 rule_matches m n replicas f rule is = record {
   values = is.values;
   role = is.role;
@@ -49,7 +49,7 @@ as_before : (replicas : List FleetReplica) (r q : ℕ) (now : FleetReplica) → 
 as_before replicas r q now ne = sym (get_or-set_other replicas r q now _ ne)
 
 -- with a replica that stands for the same values and the same role, the fleet stands for the same
-same_matches : (m : Machine) (replicas : List FleetReplica) (f : Fleet Record) (r : ℕ) (now : FleetReplica) → r < length replicas
+pub same_matches : (m : Machine) (replicas : List FleetReplica) (f : Fleet Record) (r : ℕ) (now : FleetReplica) → r < length replicas
     → values_of (replica_at replicas r) ≡ values_of now → role_of (replica_at replicas r) ≡ role_of now → Matches m replicas f → Matches m (set replicas r now) f
 same_matches m replicas f r now within values role is = record {
   values = λ q. elim (cases_eq q r) [
@@ -69,7 +69,7 @@ same_matches m replicas f r now within values role is = record {
 }
 
 -- with another one it stands for the fleet with its values and its role
-other_matches : (m : Machine) (replicas : List FleetReplica) (f : Fleet Record) (r : ℕ) (now : FleetReplica) → r < length replicas → Matches m replicas f
+pub other_matches : (m : Machine) (replicas : List FleetReplica) (f : Fleet Record) (r : ℕ) (now : FleetReplica) → r < length replicas → Matches m replicas f
     → Matches m (set replicas r now) (changed_fleet f r (values_of now) (role_of now) 0)
 other_matches m replicas f r now within is = record {
   values = λ q. put_both (λ (vs : List (Value Record)). vs ≡ values_of (replica_at (set replicas r now) q)) r (values_of now) f.values q
@@ -85,7 +85,7 @@ other_matches m replicas f r now within is = record {
 }
 
 -- it is a move, where each of its values comes from one of before
-one_turn : (f : Fleet Record) (r : ℕ) (v w : Value Record) → IsValueOf f r v → Turn f r v w → Run f (changed_fleet f r (w ∷ []) 0 0)
+pub one_turn : (f : Fleet Record) (r : ℕ) (v w : Value Record) → IsValueOf f r v → Turn f r v w → Run f (changed_fleet f r (w ∷ []) 0 0)
 one_turn f r v w of turn =
     moves rests (change r (w ∷ []) 0 0 (record {
       some_value = omega arith;

@@ -1,7 +1,7 @@
 //! The runs of a fleet: what each event does to its replicas, one act after another, and the lines of each act.
 #![tactic(auto)]
 
-ghost use Rattle.fleet_run.specs.Laws.{ClosingsAreMoves, FirstMatches, LinesKeepTerms, MountsAreMoves};
+ghost use Rattle.fleet_run.specs.Laws.{ClosingsAreMoves, FirstMatches, InspectionsAreMoves, LinesKeepTerms, MountsAreMoves, SurveysAreMoves};
 ghost use Rattle.fleet_run.specs.ThreeBoot.{ThreeBoot};
 
 /// Three replicas can be booted, with these lines; their primary has logged the start of its epoch, and isn't active: alone it is
@@ -28,4 +28,14 @@ pub fn closings_are_moves()
 /// Every line of an event leaves the epochs and the configurations that were appointed.
 pub fn lines_keep_terms()
     ensures { LinesKeepTerms }
+{}
+
+/// A survey is moves of the replication laws, also where the disk fails in it.
+pub fn surveys_are_moves()
+    ensures { SurveysAreMoves }
+{}
+
+/// So is an inspection, which changes nothing.
+pub fn inspections_are_moves()
+    ensures { InspectionsAreMoves }
 {}
