@@ -1,4 +1,3 @@
-pub mod Entries
 pub mod ProtectedGrants
 pub mod ProtectedStates
 pub mod ProtectedReplies

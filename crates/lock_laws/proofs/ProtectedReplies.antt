@@ -20,8 +20,8 @@ use Rattle.events.specs.declared.call.KeyCall.TheVariants.{Get, GetForUpdate, Se
 use Rattle.events.specs.declared.answer.Reply.{Reply}
 use Rattle.events.specs.Locking.{Lock, key_mode, on_key, in_dictionary, locks_at}
 use Rattle.events.specs.Answers.{added, deleted, key_reply, make_reply, dictionary_reply, reply_at}
-use Rattle.lock_laws.specs.Protected.{HasLock, HasLocks, is_held, kind_at, value_in, value_at, LooksSame, locks_of, finds, name_of}
-use Rattle.lock_laws.specs.OwnOperations.{IsBuilt}
+use Rattle.coll_laws.specs.Effects.{name_of}
+use Rattle.lock_laws.specs.Protected.{HasLock, HasLocks, is_held, kind_at, value_in, value_at, LooksSame, locks_of, Finds}
 use Rattle.lock_laws.proofs.ProtectedStates.{HasLock-held}
 
 -- ---- contents of one kind, with one value at a key
@@ -134,8 +134,7 @@ module _ (gs : List Grant) (t : TxnId) (a b : State) (looks : LooksSame gs t a b
 -- an operation that was logged by a call at the state: it needs the locks that the call asked for, and finds what it is for
 pub record IsLogged (state : State) (call : Call) (op : Op) : Type 0 where
   pub locks : locks_of op ≡ locks_at state call
-  pub found : kind_at (name_of op) state ≡ finds op
-  pub built : IsBuilt op
+  pub found : Finds op (kind_at (name_of op) state)
 
 -- the operation on a key of a dictionary
 on_pairs : (state : State) (name key : List ℕ) (pairs : List (List ℕ × List ℕ)) → at_key name state ≡ Some (Dict pairs)
@@ -144,28 +143,28 @@ on_pairs state name key pairs e = ap (λ (o : Option Contents). record { name = 
 
 made_logged : (state : State) (t : TxnId) (name : List ℕ) (kind : Kind) (op : Op) (o : Option Contents) → at_key name state ≡ o → (make_reply name kind o).op ≡ Some op → IsLogged state (Make t name kind) op
 made_logged state t name kind op None e logged =
-    subst (IsLogged state (Make t name kind)) (same_Some (ops.Make name kind) op logged) (record { locks = refl; found = ap (option_map kind_of) e; built = tt })
+    subst (IsLogged state (Make t name kind)) (same_Some (ops.Make name kind) op logged) (record { locks = refl; found = ap (option_map kind_of) e })
 made_logged state t name kind op (Some contents) e logged = absurd (none-some op logged)
 
 -- a call on a key of a dictionary, by the key's value
 added_logged : (state : State) (t : TxnId) (name key value : List ℕ) (op : Op) (pairs : List (List ℕ × List ℕ)) → at_key name state ≡ Some (Dict pairs) → (present : Option (List ℕ)) → (added name key value present).op ≡ Some op
     → IsLogged state (OnKey t name key (Add value)) op
 added_logged state t name key value op pairs e None put =
-    subst (IsLogged state (OnKey t name key (Add value))) (same_Some (ops.Put name key value) op put) (record { locks = on_pairs state name key pairs e; found = ap (option_map kind_of) e; built = tt })
+    subst (IsLogged state (OnKey t name key (Add value))) (same_Some (ops.Put name key value) op put) (record { locks = on_pairs state name key pairs e; found = ap (option_map kind_of) e })
 added_logged state t name key value op pairs e (Some present) put = absurd (none-some op put)
 
 deleted_logged : (state : State) (t : TxnId) (name key : List ℕ) (op : Op) (pairs : List (List ℕ × List ℕ)) → at_key name state ≡ Some (Dict pairs) → (present : Option (List ℕ)) → (deleted name key present).op ≡ Some op
     → IsLogged state (OnKey t name key Delete) op
 deleted_logged state t name key op pairs e None gone = absurd (none-some op gone)
 deleted_logged state t name key op pairs e (Some present) gone =
-    subst (IsLogged state (OnKey t name key Delete)) (same_Some (ops.Del name key) op gone) (record { locks = on_pairs state name key pairs e; found = ap (option_map kind_of) e; built = tt })
+    subst (IsLogged state (OnKey t name key Delete)) (same_Some (ops.Del name key) op gone) (record { locks = on_pairs state name key pairs e; found = ap (option_map kind_of) e })
 
 key_logged : (state : State) (t : TxnId) (name key : List ℕ) (call : KeyCall) (op : Op) (pairs : List (List ℕ × List ℕ)) → at_key name state ≡ Some (Dict pairs) → (present : Option (List ℕ)) → (key_reply name key call present).op ≡ Some op
     → IsLogged state (OnKey t name key call) op
 key_logged state t name key Get op pairs e present logged = absurd (none-some op logged)
 key_logged state t name key GetForUpdate op pairs e present logged = absurd (none-some op logged)
 key_logged state t name key (Set value) op pairs e present logged =
-    subst (IsLogged state (OnKey t name key (Set value))) (same_Some (ops.Put name key value) op logged) (record { locks = on_pairs state name key pairs e; found = ap (option_map kind_of) e; built = tt })
+    subst (IsLogged state (OnKey t name key (Set value))) (same_Some (ops.Put name key value) op logged) (record { locks = on_pairs state name key pairs e; found = ap (option_map kind_of) e })
 key_logged state t name key (Add value) op pairs e present logged = added_logged state t name key value op pairs e present logged
 key_logged state t name key Delete op pairs e present logged = deleted_logged state t name key op pairs e present logged
 

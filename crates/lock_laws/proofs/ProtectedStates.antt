@@ -12,53 +12,20 @@ use Rattle.coll_model.specs.declared.op.Op.{Op}
 use Rattle.coll_model.specs.declared.op.Op.TheVariants.{Make, Unmake, Put, Del, Push, Pop}
 use Rattle.coll_model.specs.declared.contents.Contents.{Contents}
 use Rattle.coll_model.specs.declared.contents.Contents.TheVariants.{Dict, Queue}
-use Rattle.coll_model.specs.Effect.{State, at_key, kind_of, fresh, put, del, push, pop, effect, folded, with_key, changed_at}
+use Rattle.coll_model.specs.Effect.{State, at_key, kind_of, fresh, put, del, push, pop, effect, folded, changed_at}
 use Rattle.key_locks.specs.declared.lock_name.LockName.{LockName}
 use Rattle.key_locks.specs.declared.lock_name.LockName.TheVariants.{Name, Key}
 use Rattle.key_locks.specs.declared.lock_mode.LockMode.{LockMode}
 use Rattle.key_locks.specs.declared.lock_mode.LockMode.TheVariants.{Shared, Update, Exclusive}
 use Rattle.key_locks.specs.Grants.{Grant, stronger, mode_in}
 use Rattle.events.specs.Locking.{Lock}
-use Rattle.lock_laws.specs.Protected.{HasLock, HasLocks, AreExclusive, is_held, kind_at, value_in, value_at, LooksSame, locks_of, on_item, AreLocked, name_of}
-use Rattle.lock_laws.specs.OrderedStates.{AreRising, IsOrdered}
+use Rattle.coll_laws.specs.Rising.{AreRising}
+use Rattle.coll_laws.specs.Effects.{name_of, after}
+use Rattle.lock_laws.specs.Protected.{HasLock, HasLocks, AreExclusive, is_held, kind_at, value_in, value_at, LooksSame, locks_of, on_item, AreLocked}
+use Rattle.lock_laws.specs.OrderedStates.{IsOrdered}
 use Rattle.events.proofs.Lists.{some_of}
-use Rattle.lock_laws.proofs.Entries.{cases_text, at_with_same, at_with_other, at_without_same, at_without_other, at_changed_same, at_changed_other, at_with, at_without, rising-nil, rising_with, rising_without, rising_changed}
-
--- ---- what stands under a name after an operation
-
-pub at_effect_other : (state : State) (op : Op) (name : List ℕ) → name ≢ name_of op → at_key name (effect state op) ≡ at_key name state
-at_effect_other state (Make made kind) name apart = by (is_some (at_key made state))
-  where
-    by : (b : Bool) → at_key name (cond b state (with_key made (fresh kind) state)) ≡ at_key name state
-    by true = refl
-    by false = at_with_other name made (fresh kind) state apart
-at_effect_other state (Unmake other) name apart = at_without_other name other state apart
-at_effect_other state (Put other key value) name apart = at_changed_other name other (put key value) state apart
-at_effect_other state (Del other key) name apart = at_changed_other name other (del key) state apart
-at_effect_other state (Push other value) name apart = at_changed_other name other (push value) state apart
-at_effect_other state (Pop other) name apart = at_changed_other name other pop state apart
-
--- the contents under the operation's own name
-abbrev pub after : Op → Option Contents → Option Contents
-after (Make name kind) None = Some (fresh kind)
-after (Make name kind) (Some contents) = Some contents
-after (Unmake name) contents = None
-after (Put name key value) contents = option_map (put key value) contents
-after (Del name key) contents = option_map (del key) contents
-after (Push name value) contents = option_map (push value) contents
-after (Pop name) contents = option_map pop contents
-
-pub made_here : (state : State) (name : List ℕ) (kind : Kind) (o : Option Contents) → at_key name state ≡ o → at_key name (cond (is_some o) state (with_key name (fresh kind) state)) ≡ after (Make name kind) o
-made_here state name kind None e = at_with_same name (fresh kind) state
-made_here state name kind (Some contents) e = e
-
-pub at_effect_own : (state : State) (op : Op) → AreRising state → at_key (name_of op) (effect state op) ≡ after op (at_key (name_of op) state)
-at_effect_own state (Make name kind) rising = made_here state name kind (at_key name state) refl
-at_effect_own state (Unmake name) rising = at_without_same name state rising
-at_effect_own state (Put name key value) rising = at_changed_same name (put key value) state
-at_effect_own state (Del name key) rising = at_changed_same name (del key) state
-at_effect_own state (Push name value) rising = at_changed_same name (push value) state
-at_effect_own state (Pop name) rising = at_changed_same name pop state
+use Rattle.coll_laws.proofs.Effects.{at_effect_other, at_effect_own, rising_effect}
+use Rattle.coll_laws.proofs.Entries.{cases_text, at_with_other, at_without_other, at_changed_same, at_with, at_without, rising-nil, rising_with, rising_without}
 
 -- ---- kinds and values after an operation
 
@@ -151,18 +118,6 @@ after_value (Pop name) other (Some (Queue values)) rising = refl
 after_value (Pop name) other (Some (Dict pairs)) rising = refl
 
 -- ---- states stay in order
-
-rising_effect : (state : State) (op : Op) → AreRising state → AreRising (effect state op)
-rising_effect state (Make name kind) rising = by (is_some (at_key name state))
-  where
-    by : (b : Bool) → AreRising (cond b state (with_key name (fresh kind) state))
-    by true = rising
-    by false = rising_with name (fresh kind) state rising
-rising_effect state (Unmake name) rising = rising_without name state rising
-rising_effect state (Put name key value) rising = rising_changed name (put key value) state rising
-rising_effect state (Del name key) rising = rising_changed name (del key) state rising
-rising_effect state (Push name value) rising = rising_changed name (push value) state rising
-rising_effect state (Pop name) rising = rising_changed name pop state rising
 
 put_rising : (key value : List ℕ) (contents : Contents) → HasRising contents → HasRising (put key value contents)
 put_rising key value (Dict pairs) rising = rising_with key value pairs rising

@@ -1,6 +1,6 @@
 -- What locks protect: a transaction that goes on has read and written under its own locks, so the commits of others leave
 -- its answers as they are.
-use Rattle.std.specs.Prelude.{◌≡◌, ℕ, Bool, true, false, List, [], ◌∷◌, All, Option, Some, None, is_some, option_map, option_and_then, MatchBool}
+use Rattle.std.specs.Prelude.{◌≡◌, ℕ, Bool, true, false, List, [], ◌∷◌, All, Option, Some, None, IsSome, is_some, option_map, option_and_then, MatchBool}
 use Rattle.std.specs.List.{cons_option}
 use Rattle.rc_base.specs.declared.ids.TxnId.{TxnId}
 use Rattle.rc_base.specs.Ids.{is_txn}
@@ -77,22 +77,15 @@ locks_of (Pop name) = on_item name (Head name)
 abbrev pub AreLocked : List Grant → TxnId → List Op → Type 0
 AreLocked grants t ops = All (λ op. HasLocks grants t (locks_of op)) ops
 
--- an operation finds what it is for: no collection of a new name, and else one of its kind
-abbrev pub finds : Op → Option Kind
-finds (Make name kind) = None
-finds (Unmake name) = None
-finds (Put name key value) = Some kinds.Dict
-finds (Del name key) = Some kinds.Dict
-finds (Push name value) = Some kinds.Queue
-finds (Pop name) = Some kinds.Queue
-
-abbrev pub name_of : Op → List ℕ
-name_of (Make name kind) = name
-name_of (Unmake name) = name
-name_of (Put name key value) = name
-name_of (Del name key) = name
-name_of (Push name value) = name
-name_of (Pop name) = name
+-- The operation finds what it is for, by the kind of what stands under its name: no collection where it makes one, one of
+-- either kind where it ends it, and else one of its own kind.
+abbrev pub Finds : Op → Option Kind → Type 0
+Finds (Make name kind) there = there ≡ None
+Finds (Unmake name) there = IsSome there
+Finds (Put name key value) there = there ≡ Some kinds.Dict
+Finds (Del name key) there = there ≡ Some kinds.Dict
+Finds (Push name value) there = there ≡ Some kinds.Queue
+Finds (Pop name) there = there ≡ Some kinds.Queue
 
 -- ---- calls
 

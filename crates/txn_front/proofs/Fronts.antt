@@ -26,7 +26,7 @@ use Rattle.events.specs.Answers.{plain, live_reply, reply_to, locked_or}
 use Rattle.events.specs.Calls.{txn_named}
 use Rattle.lock_laws.specs.Protected.{HasLocks, AreLocked, locks_of}
 use Rattle.lock_laws.specs.OrderedStates.{IsOrdered}
-use Rattle.lock_laws.specs.OwnOperations.{IsBuilt, AreEffective}
+use Rattle.lock_laws.specs.OwnOperations.{AreEffective}
 use Rattle.lock_laws.proofs.ProtectedGrants.{AreExclusive-nil, AreExclusive-taken, AreExclusive-released, AreExclusive-alike, against-alike, Alike-taken}
 use Rattle.lock_laws.proofs.ProtectedStates.{IsOrdered-folded, LooksSame-foreign_folded}
 use Rattle.lock_laws.proofs.ProtectedCalls.{AreLocked-taken, AreLocked-released, AreLocked-alike, live_logged, live_locked}
@@ -296,7 +296,6 @@ IsOver-alike a b state h over = along (λ (f : Fronted). IsOver f state) a b h (
   each = λ n going at. let own = over.each n going at in record {
     begun = own.begun;
     locked = AreLocked-alike b.grants gs (λ name. sym (alike name)) (txn_at b n) going.ops own.locked;
-    built = own.built;
     effective = own.effective;
   };
 })
@@ -321,7 +320,7 @@ IsOver-with f state n going over own = record {
 }
   where
     moved : (m : ℕ) (other : Going) → IsOwn f state m other → IsOwn (with_going n going f) state m other
-    moved m other h = record { begun = h.begun; locked = h.locked; built = h.built; effective = h.effective }
+    moved m other h = record { begun = h.begun; locked = h.locked; effective = h.effective }
 
     by : (m : ℕ) (other : Going) → numbered m (insert_entry nat_cmp f.live n going) ≡ Some other → (m ≡ n) ⊎ (m ≢ n) → IsOwn (with_going n going f) state m other
     by m other at (inl same) =
@@ -339,7 +338,7 @@ IsOver-logged f state t lsn over = by (going_of f t) refl
     by None e = over
     by (Some going) e =
         let own = own_of f state t going over e in
-        IsOver-with f state t.n (record going { last = lsn }) over (record { begun = own.begun; locked = own.locked; built = own.built; effective = own.effective })
+        IsOver-with f state t.n (record going { last = lsn }) over (record { begun = own.begun; locked = own.locked; effective = own.effective })
 
 pub IsOver-begun : (f : Fronted) (state : State) → IsOver f state → IsOver (begun f) state
 IsOver-begun f state over =
@@ -348,10 +347,10 @@ IsOver-begun f state over =
       ordered = over.ordered;
       rising = over.rising;
       exclusive = over.exclusive;
-      each = λ n going at. let own = over.each n going at in let b : n ≤ f.begins = own.begun in record { begun = omega (arith, b); locked = own.locked; built = own.built; effective = own.effective };
+      each = λ n going at. let own = over.each n going at in let b : n ≤ f.begins = own.begun in record { begun = omega (arith, b); locked = own.locked; effective = own.effective };
     } in
     IsOver-with more state (f.begins + 1) (record { last = record { 0 = 0 }; ops = [] }) counted
-    (record { begun = omega arith; locked = All-nil (λ op. HasLocks f.grants (txn_at f (f.begins + 1)) (locks_of op)); built = All-nil IsBuilt; effective = tt })
+    (record { begun = omega arith; locked = All-nil (λ op. HasLocks f.grants (txn_at f (f.begins + 1)) (locks_of op)); effective = tt })
 
 IsOver-locked : (f : Fronted) (state : State) (t : TxnId) (going : Going) (call : Call) → IsOver f state → IsOver (locked_front f state t going call) state
 IsOver-locked f state t going call over =
@@ -363,7 +362,6 @@ IsOver-locked f state t going call over =
       each = λ n other at. let own = over.each n other at in record {
         begun = own.begun;
         locked = AreLocked-taken f.grants t locks (txn_at f n) other.ops own.locked;
-        built = own.built;
         effective = own.effective;
       };
     }
@@ -390,7 +388,6 @@ IsOver-asked f state t going call over e = answered (live_reply f.grants seen t 
         IsOver-with held state t.n (record going { ops = going.ops ++ op ∷ [] }) over_held (record {
           begun = own.begun;
           locked = All-push (λ o. HasLocks held.grants (txn_at f t.n) (locks_of o)) going.ops op own.locked locks;
-          built = All-push IsBuilt going.ops op own.built logged.built;
           effective = AreEffective-push state going.ops op own.effective logged.found;
         })
 
@@ -436,7 +433,6 @@ IsOver-removed f state next t going over e ordered stays =
         record {
           begun = own.begun;
           locked = AreLocked-released f.grants t (txn_at f n) other.ops (apart_named f t n apart) own.locked;
-          built = own.built;
           effective = stays n other apart own;
         }
 
@@ -461,5 +457,5 @@ IsOver-committed f state t going over e =
 
     stays : (n : ℕ) (other : Going) → n ≢ t.n → IsOwn f state n other → AreEffective (folded state going.ops) other.ops
     stays n other apart own =
-        AreEffective-looks_same f.grants (txn_at f n) state (folded state going.ops) other.ops
+        AreEffective-looks_same f.grants (txn_at f n) state (folded state going.ops) other.ops over.ordered (IsOrdered-folded state going.ops over.ordered)
         (LooksSame-foreign_folded f.grants (txn_at f n) t over.exclusive (flip (txn_at f n) (apart_named f t n apart)) state going.ops mine) own.locked own.effective

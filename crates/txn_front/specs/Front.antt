@@ -19,7 +19,7 @@ use Rattle.events.specs.Locking.{locks_at, taken}
 use Rattle.events.specs.Answers.{plain, live_reply}
 use Rattle.events.specs.Calls.{txn_named}
 use Rattle.lock_laws.specs.Protected.{AreExclusive, AreLocked}
-use Rattle.lock_laws.specs.OwnOperations.{AreBuilt, AreEffective}
+use Rattle.lock_laws.specs.OwnOperations.{AreEffective}
 use Rattle.lock_laws.specs.OrderedStates.{IsOrdered}
 
 -- ---- what goes on
@@ -107,7 +107,6 @@ ended f t = option_map_or (λ going. record f { live = remove_entry (is_at (nat_
 pub record IsOwn (f : Fronted) (state : State) (n : ℕ) (going : Going) : Type 0 where
   pub begun : n ≤ f.begins
   pub locked : AreLocked f.grants (txn_at f n) going.ops
-  pub built : AreBuilt going.ops
   pub effective : AreEffective state going.ops
 
 -- The primary shows this state: no lock stands beside an exclusive one, and the operations of each transaction take effect.

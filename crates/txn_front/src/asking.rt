@@ -8,7 +8,7 @@ ghost use Rattle.events.specs.Answers as answers;
 ghost use Rattle.events.specs.Answers.{live_reply};
 ghost use Rattle.events.specs.Locking.{key_mode, locks_at, in_dictionary, taken};
 ghost use Rattle.lock_laws.specs.OrderedStates.{IsOrdered};
-ghost use Rattle.lock_laws.specs.OwnOperations.{AreBuilt, AreEffective};
+ghost use Rattle.lock_laws.specs.OwnOperations.{AreEffective};
 ghost use Rattle.lock_laws.specs.Protected.{kind_at, value_at};
 ghost use Rattle.events.specs.declared.call.Call.TheVariants as CallSpec;
 ghost use Rattle.txn_front.specs.OnKey as spec;
@@ -29,7 +29,6 @@ pub(crate) fn answer(
     call: &Call,
 ) -> Result<Option<Reply>, NoMemory>
     requires ordered { IsOrdered state.now }
-    requires built { AreBuilt going.now.ops }
     requires effective { AreEffective state.now going.now.ops }
     ensures told { IfOk result (λ reply. reply ≡ live_reply locks.old (folded state.now going.now.ops) txn call.now) }
     ensures kept { OnOk result (Alike locks.new (taken locks.old txn (locks_at (folded state.now going.now.ops) call.now))) }
@@ -61,7 +60,6 @@ fn make(
     kind: Kind,
 ) -> Result<Reply, NoMemory>
     requires ordered { IsOrdered state.now }
-    requires built { AreBuilt going.now.ops }
     requires effective { AreEffective state.now going.now.ops }
     ensures told { IfOk result (λ reply. Some reply ≡ live_reply locks.old (folded state.now going.now.ops) txn (CallSpec.Make txn name.now kind)) }
     ensures kept { OnOk result (Alike locks.new (taken locks.old txn (locks_at (folded state.now going.now.ops) (CallSpec.Make txn name.now kind)))) }
@@ -89,7 +87,6 @@ fn on_key(
     call: &KeyCall,
 ) -> Result<Reply, NoMemory>
     requires ordered { IsOrdered state.now }
-    requires built { AreBuilt going.now.ops }
     requires effective { AreEffective state.now going.now.ops }
     ensures told { IfOk result (λ reply. Some reply ≡ live_reply locks.old (folded state.now going.now.ops) txn (CallSpec.OnKey txn name.now key.now call.now)) }
     ensures kept { OnOk result (Alike locks.new (taken locks.old txn (locks_at (folded state.now going.now.ops) (CallSpec.OnKey txn name.now key.now call.now)))) }
@@ -112,7 +109,6 @@ fn enter(
     mode: LockMode,
 ) -> Result<Option<Answer>, NoMemory>
     requires ordered { IsOrdered state.now }
-    requires built { AreBuilt going.now.ops }
     requires effective { AreEffective state.now going.now.ops }
     ensures told { IfOk result (λ refusal. refusal ≡ spec.refusal locks.old txn name.now key.now mode (kind_at name.now (folded state.now going.now.ops))) }
     ensures kept { OnOk result (Alike locks.new (taken locks.old txn (in_dictionary name.now key.now mode (folded state.now going.now.ops)))) }
@@ -225,18 +221,25 @@ fn put(answer: Answer, name: &Name, key: &Bytes, value: &Bytes) -> Result<Reply,
 #[tactic(auto, using(lock_laws::proofs::OwnOperations::kind_own))]
 fn kind_seen(going: &Going, state: &State, name: &Name) -> Result<Option<Kind>, NoMemory>
     requires ordered { IsOrdered state.now }
-    requires built { AreBuilt going.now.ops }
     requires effective { AreEffective state.now going.now.ops }
     ensures { IfOk result (λ kind. kind ≡ kind_at name.now (folded state.now going.now.ops)) }
 {
     let item = LockName::Name(name.clone()?);
-    if let Some(Op::Make(_, kind)) = going.newest(&item) {
-        return Ok(Some(*kind));
-    }
-    Ok(match state.get(name) {
+    Ok(match going.newest(&item, &item) {
+        Some(Op::Make(_, kind)) => Some(*kind),
+        Some(Op::Unmake(_)) => None,
+        _ => kind_shown(state, name),
+    })
+}
+
+// The kind of the collection of a name, where there is one.
+fn kind_shown(state: &State, name: &Name) -> Option<Kind>
+    ensures { result ≡ kind_at name.now state.now }
+{
+    match state.get(name) {
         Some(contents) => Some(contents.kind()),
         None => None,
-    })
+    }
 }
 
 // The value that the transaction sees at a key of a dictionary.
@@ -247,12 +250,12 @@ fn value_seen<'a>(
     key: &Bytes,
 ) -> Result<Option<&'a Bytes>, NoMemory>
     requires ordered { IsOrdered state.now }
-    requires built { AreBuilt going.now.ops }
     requires effective { AreEffective state.now going.now.ops }
     ensures { IfOk result (λ value. option_copied value ≡ value_at name.now key.now (folded state.now going.now.ops)) }
 {
     let item = LockName::Key(name.clone()?, key.clone()?);
-    match going.newest(&item) {
+    let within = LockName::Name(name.clone()?);
+    match going.newest(&item, &within) {
         Some(op) => match op {
             Op::Put(_, _, value) => Ok(Some(value)),
             _ => Ok(None),

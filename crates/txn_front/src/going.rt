@@ -1,6 +1,7 @@
 ghost use Rattle.std.specs.Prelude.{◌≡◌, [], ◌∷◌, ◌++◌, IfOk, OnOk, OnErr, option_and_then};
 ghost use Rattle.std.specs.Option.{option_copied};
 ghost use Rattle.lock_laws.specs.OwnOperations as own;
+ghost use Rattle.txn_front.specs.Index as index;
 ghost use Rattle.txn_front.specs.Index.{noted};
 
 use coll_model::{Op, Ops};
@@ -9,6 +10,7 @@ use indexmap::IndexMap;
 use key_locks::LockName;
 use rc_base::{Lsn, NoMemory};
 use std::alloc::Global;
+use std::cmp::max;
 use std::marker::Model;
 
 /// A transaction that goes on. Contracts see the position of its last record, and its operations in order.
@@ -16,7 +18,7 @@ use std::marker::Model;
 pub struct Going {
     last: Lsn,
     ops: Ops,
-    // For each item the place of the newest operation on it.
+    // For each item the place of the newest operation on it itself.
     places: IndexMap<LockName, usize>,
 }
 
@@ -57,11 +59,12 @@ impl Going {
         &self.ops
     }
 
-    // The newest of its operations on the item.
-    pub(crate) fn newest(&self, item: &LockName) -> Option<&Op>
+    // The newest of its operations that decide the item, which is in the collection of this name.
+    pub(crate) fn newest(&self, item: &LockName, name: &LockName) -> Option<&Op>
+        requires { name.now ≡ own.name_in item.now }
         ensures { option_copied result ≡ own.newest item.now self.now.ops }
     {
-        let place = *self.places.get(item)?;
+        let place = later_place(self.places.get(item), self.places.get(name))?;
         self.ops.as_slice().get(place)
     }
 
@@ -101,6 +104,17 @@ impl Going {
     {
         let Going { ops, .. } = self;
         ops
+    }
+}
+
+// The later of two places, where there is one.
+fn later_place(one: Option<&usize>, other: Option<&usize>) -> Option<usize>
+    ensures { result ≡ index.later_place (option_copied one.entry) (option_copied other.entry) }
+{
+    match (one, other) {
+        (Some(a), Some(b)) => Some(max(*a, *b)),
+        (Some(a), None) => Some(*a),
+        (None, _) => other.copied(),
     }
 }
 

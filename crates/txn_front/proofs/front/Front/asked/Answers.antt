@@ -1,13 +1,8 @@
 use Rattle.std.proofs.Common.{◌≡◌, ◌∙◌, sym, subst}
 use Rattle.rc_base.specs.Ids.{is_epoch}
-use Rattle.txn_front.specs.Front.{Fronted, IsOver, AreAlike, told, called}
+use Rattle.txn_front.specs.Front.{Fronted, AreAlike, told, called}
 use Rattle.txn_front.proofs.Asked.{same_epoch, asked_told, asked_kept}
 use Rattle.txn_front.proofs.front.Front.asked.Goals as goal
-
-pub answer-requires-clause-built : goal.answer-requires-clause-built
-answer-requires-clause-built c =
-    let over = subst (λ (f : Fronted). IsOver f c.args.state.now) (sym c.self.view_is) c.requires.over in
-    (over.each c.args.txn.n c.in-Some.going.now (sym c.in-Some.ensures.value)).built
 
 pub returns-clause-told : goal.returns-clause-told
 returns-clause-told c =

@@ -1,5 +1,5 @@
 -- Entries by rising key: what a look-up finds after a change, and that they stay in order.
-use Rattle.std.proofs.Common.{◌≡◌, ◌∙◌, ◌≢◌, ◌⊎◌, inl, inr, ℕ, Bool, true, false, cond, nat_eq, List, [], ◌∷◌, Option, Some, None, option_map, IsSome, is_some, nat_cmp, is_eq, Ordering, Less, Equal, Greater, refl, sym, ap, subst}
+use Rattle.std.proofs.Common.{◌≡◌, ◌∙◌, ◌≢◌, ◌⊎◌, inl, inr, ap₂, ℕ, Bool, true, false, cond, nat_eq, List, [], ◌∷◌, Option, Some, None, option_map, IsSome, is_some, nat_cmp, is_eq, Ordering, Less, Equal, Greater, refl, sym, ap, subst}
 use Rattle.std.specs.Ordering.{match_ordering, ordering_reverse}
 use Rattle.std.specs.Option.{option_map_or}
 use Rattle.std.specs.Cmp.{eq_by_cmp_equiv, tied_itself}
@@ -9,11 +9,11 @@ use Rattle.std.specs.List.{AllByRecursion}
 use Rattle.std.specs.List.Sorted.{IsStrictlySortedBy}
 use Rattle.std.specs.BTreeMap.{is_at}
 use Rattle.std.proofs.lemmas.Bool.{cond-true, cond-false}
-use Rattle.std.proofs.lemmas.Option.{none-some}
+use Rattle.std.proofs.lemmas.Option.{none-some, same_Some}
 use Rattle.std.proofs.lemmas.Map.{lookup-set_value, lookup-remove_entry, keys-set_value}
 use Rattle.std.proofs.lemmas.Map.Keys.{IsDistinct-from_sorted, sorted_head, sorted_tail}
 use Rattle.coll_model.specs.Effect.{at_key, with_key, without_key, changed_at}
-use Rattle.lock_laws.specs.OrderedStates.{AreRising}
+use Rattle.coll_laws.specs.Rising.{AreRising}
 
 abbrev order : List ℕ → List ℕ → Ordering
 order = slice_cmp nat_cmp
@@ -33,7 +33,7 @@ order_itself k = tied_itself nat_list_cmp_total k
 at_itself : (k : List ℕ) → is_at (order k) k ≡ true
 at_itself k = ap is_eq (order_itself k)
 
-at_same : (a b : List ℕ) → is_at (order a) b ≡ true → a ≡ b
+pub at_same : (a b : List ℕ) → is_at (order a) b ≡ true → a ≡ b
 at_same a b e = same_text a b (sym (texts_ties a b ∙ e))
 
 at_apart : (a b : List ℕ) → a ≢ b → is_at (order a) b ≡ false
@@ -74,15 +74,6 @@ module _ {X : Type 0} where
       lookup-remove_entry (eq_by_cmp_equiv nat_list_cmp_total) (is_at (order k)) (λ x y e. ap (λ (z : List ℕ). is_at (order z) y) (at_same k x e)) k es
       (IsDistinct-from_sorted order (keys_of es) rising) ∙ cond-true (is_at (order k) k) None (at_key k es) (at_itself k)
 
-  -- a key that isn't there stays so
-  pub at_without_absent : (k : List ℕ) (es : List (List ℕ × X)) → at_key k es ≡ None → at_key k (without_key k es) ≡ None
-  at_without_absent k [] absent = refl
-  at_without_absent k (e ∷ es) absent = by (is_at (order k) e.0) refl (at_without_absent k es) absent
-    where
-      by : (b : Bool) → is_at (order k) e.0 ≡ b → (at_key k es ≡ None → at_key k (without_key k es) ≡ None) → cond b (Some e.1) (at_key k es) ≡ None → at_key k (cond b es (e ∷ without_key k es)) ≡ None
-      by true p later none = absurd (none-some e.1 (sym none))
-      by false p later none = cond-false (is_at (order k) e.0) (Some e.1) (at_key k (without_key k es)) p ∙ later none
-
   pub at_without_other : (q k : List ℕ) (es : List (List ℕ × X)) → q ≢ k → at_key q (without_key k es) ≡ at_key q es
   at_without_other q k [] apart = refl
   at_without_other q k (e ∷ es) apart = by (is_at (order k) e.0) refl (at_without_other q k es apart)
@@ -106,7 +97,7 @@ module _ {X : Type 0} where
       by true e = subst (λ (z : List ℕ). at_key z (without_key k es) ≡ None) (sym (same_text q k (sym e))) (at_without_same k es rising)
       by false e = at_without_other q k es (other_text q k (sym e))
 
-  set_other : (q k : List ℕ) (w : X) (es : List (List ℕ × X)) → q ≢ k → at_key q (set_value (is_at (order k)) es w) ≡ at_key q es
+  pub set_other : (q k : List ℕ) (w : X) (es : List (List ℕ × X)) → q ≢ k → at_key q (set_value (is_at (order k)) es w) ≡ at_key q es
   set_other q k w [] apart = refl
   set_other q k w (e ∷ es) apart = by (is_at (order k) e.0) refl (set_other q k w es apart)
     where
@@ -116,7 +107,7 @@ module _ {X : Type 0} where
           cond-false (is_at (order q) e.0) (Some w) (at_key q es) off ∙ sym (cond-false (is_at (order q) e.0) (Some e.1) (at_key q es) off)
       by false p later = ap (cond (is_at (order q) e.0) (Some e.1)) later
 
-  set_same : (k : List ℕ) (w : X) (es : List (List ℕ × X)) → IsSome (at_key k es) → at_key k (set_value (is_at (order k)) es w) ≡ Some w
+  pub set_same : (k : List ℕ) (w : X) (es : List (List ℕ × X)) → IsSome (at_key k es) → at_key k (set_value (is_at (order k)) es w) ≡ Some w
   set_same k w es there =
       lookup-set_value (eq_by_cmp_equiv nat_list_cmp_total) (is_at (order k)) (λ x y e. ap (λ (z : List ℕ). is_at (order z) y) (at_same k x e)) k w es there
       ∙ cond-true (is_at (order k) k) (Some w) (at_key k es) (at_itself k)
@@ -145,7 +136,7 @@ pub rising-nil : (X : Type 0) → AreRising {X = X} []
 unfolding IsStrictlySortedBy
 rising-nil X = tt
 
-rising-cons : {X : Type 0} (k : List ℕ) (v : X) (es : List (List ℕ × X)) → AllByRecursion (λ y. order k y ≡ Less) (keys_of es) → AreRising es → AreRising ((k, v) ∷ es)
+pub rising-cons : {X : Type 0} (k : List ℕ) (v : X) (es : List (List ℕ × X)) → AllByRecursion (λ y. order k y ≡ Less) (keys_of es) → AreRising es → AreRising ((k, v) ∷ es)
 unfolding IsStrictlySortedBy
 rising-cons k v es below rising = (below, rising)
 
@@ -198,3 +189,52 @@ module _ {X : Type 0} where
       by : (o : Option X) → AreRising (option_map_or (λ v. set_value (is_at (order k)) es (change v)) o es)
       by None = rising
       by (Some v) = subst (λ (ks : List (List ℕ)). IsStrictlySortedBy order ks) (sym (keys-set_value (is_at (order k)) es (change v))) rising
+
+-- ---- entries whose look-ups are alike are the same
+
+module _ {X : Type 0} where
+  -- a key below all others isn't there
+  pub below_absent : (k : List ℕ) (es : List (List ℕ × X)) → AllByRecursion (λ y. order k y ≡ Less) (keys_of es) → at_key k es ≡ None
+  below_absent k [] h = refl
+  below_absent k (e ∷ es) h = cond-false (is_at (order k) e.0) (Some e.1) (at_key k es) (ap is_eq h.0) ∙ below_absent k es h.1
+
+  pub at_head : (e : List ℕ × X) (es : List (List ℕ × X)) → at_key e.0 (e ∷ es) ≡ Some e.1
+  at_head e es = cond-true (is_at (order e.0) e.0) (Some e.1) (at_key e.0 es) (at_itself e.0)
+
+  pub at_behind : (k : List ℕ) (e : List ℕ × X) (es : List (List ℕ × X)) → k ≢ e.0 → at_key k (e ∷ es) ≡ at_key k es
+  at_behind k e es apart = cond-false (is_at (order k) e.0) (Some e.1) (at_key k es) (at_apart k e.0 apart)
+
+  -- the first key of one is not below the other's
+  not_below : (d e : List ℕ × X) (ds es : List (List ℕ × X)) → order d.0 e.0 ≡ Less → AreRising (e ∷ es) → at_key d.0 (d ∷ ds) ≡ at_key d.0 (e ∷ es) → ⊥
+  not_below d e ds es less rising same =
+      none-some d.1 (sym (below_absent d.0 (e ∷ es) (rising_below d.0 e es less rising)) ∙ sym same ∙ at_head d ds)
+
+  same_tails : (d e : List ℕ × X) (ds es : List (List ℕ × X)) → d.0 ≡ e.0 → AreRising (d ∷ ds) → AreRising (e ∷ es) → ((k : List ℕ) → at_key k (d ∷ ds) ≡ at_key k (e ∷ es)) → (k : List ℕ) → at_key k ds ≡ at_key k es
+  same_tails d e ds es head in_d in_e same k = by (cases_text k d.0)
+    where
+      off_d : at_key d.0 ds ≡ None
+      off_d = below_absent d.0 ds (sorted_head order d.0 (keys_of ds) in_d)
+
+      off_e : at_key e.0 es ≡ None
+      off_e = below_absent e.0 es (sorted_head order e.0 (keys_of es) in_e)
+
+      by : (k ≡ d.0) ⊎ (k ≢ d.0) → at_key k ds ≡ at_key k es
+      by (inl here) =
+          subst (λ (x : List ℕ). at_key x ds ≡ at_key x es) (sym here) (off_d ∙ sym (subst (λ (x : List ℕ). at_key x es ≡ None) (sym head) off_e))
+      by (inr apart) = sym (at_behind k d ds apart) ∙ same k ∙ at_behind k e es (λ there. apart (there ∙ sym head))
+
+  pub same_rising : (a b : List (List ℕ × X)) → AreRising a → AreRising b → ((k : List ℕ) → at_key k a ≡ at_key k b) → a ≡ b
+  same_rising [] [] in_a in_b same = refl
+  same_rising [] (e ∷ es) in_a in_b same = absurd (none-some e.1 (same e.0 ∙ at_head e es))
+  same_rising (d ∷ ds) [] in_a in_b same = absurd (none-some d.1 (sym (same d.0) ∙ at_head d ds))
+  same_rising (d ∷ ds) (e ∷ es) in_a in_b same =
+      by (order d.0 e.0) refl (λ rest. same_rising ds es (sorted_tail order d.0 (keys_of ds) in_a) (sorted_tail order e.0 (keys_of es) in_b) rest)
+    where
+      by : (r : Ordering) → order d.0 e.0 ≡ r → (((k : List ℕ) → at_key k ds ≡ at_key k es) → ds ≡ es) → (d ∷ ds) ≡ (e ∷ es)
+      by Less p rest = absurd (not_below d e ds es p in_b (same d.0))
+      by Greater p rest = absurd (not_below e d es ds (nat_list_cmp_total.antisymm e.0 d.0 ∙ ap ordering_reverse p) in_a (sym (same e.0)))
+      by Equal p rest =
+          let head : d.0 ≡ e.0 = equal_same d.0 e.0 p in
+          let value : d.1 ≡ e.1 =
+          same_Some d.1 e.1 (sym (at_head d ds) ∙ same d.0 ∙ subst (λ (x : List ℕ). at_key x (e ∷ es) ≡ Some e.1) (sym head) (at_head e es)) in
+          ap₂ (λ (x : List ℕ × X) (xs : List (List ℕ × X)). x ∷ xs) (ap₂ (λ (k : List ℕ) (v : X). (k, v)) head value) (rest (same_tails d e ds es head in_a in_b same))
