@@ -1,0 +1,7 @@
+use versioned_store::Versions;
+
+/// A dictionary at versions.
+#[derive(Drop)]
+pub struct Dict {
+    pub(crate) versions: Versions,
+}

@@ -1,0 +1,4 @@
+pub mod Chains
+pub mod Stores
+pub mod Loops
+pub mod SeenBy
