@@ -33,9 +33,11 @@ use Rattle.txn_front.specs.Front.{Fronted, Going, IsOver, txn_at, going_of, oper
 use Rattle.log_store.specs.declared.kept.Kept.{Kept}
 use Rattle.txn_table.specs.Epochs.{later}
 use Rattle.log_store.specs.Growth.{after_one, after, GoesOn}
-use Rattle.replica.specs.declared.step.StepEvent.TheVariants as steps
+use Rattle.replica_model.specs.declared.step.StepEvent.TheVariants as steps
 use Rattle.replica.specs.Open.{Open, IsKnownAs, IsPrimary, HasRole, AgreesWith}
-use Rattle.replica.specs.Step.{is_active, reply, logged_op, logged_commit, logged_abort, logged_call, logged_by, going_in, placed, behind, lengthened, noted, answered, called, committed_by}
+use Rattle.replica_model.specs.Records.{logged_op, logged_commit, logged_abort, logged_call, placed}
+use Rattle.replica_model.specs.Steps.{noted}
+use Rattle.replica.specs.Step.{is_active, reply, logged_by, going_in, behind, lengthened, answered, called, committed_by}
 use Rattle.replica.proofs.OneMore.{later_twice}
 use Rattle.replica.proofs.OneRecord.{active_primary, item, longer, begun_at, operated_at, commit, Grows, AreKnown, known_put, known_still, begin_grows, operation_grows, end_grows}
 use Rattle.txn_front.proofs.Fronts.{IsOver-called, IsOver-logged, IsOver-committed, IsOver-aborted}

@@ -30,12 +30,14 @@ use Rattle.txn_front.specs.Front.{Fronted, Going, going_of, begun, operated, not
 use Rattle.log_store.specs.declared.kept.Kept.{Kept}
 use Rattle.txn_table.specs.Epochs.{later}
 use Rattle.log_store.specs.Growth.{after_one, after}
-use Rattle.replica.specs.declared.role.Role.TheVariants.{Other}
-use Rattle.replica.specs.declared.step.StepEvent.{StepEvent}
-use Rattle.replica.specs.declared.step.StepEvent.TheVariants as steps
+use Rattle.replica_model.specs.declared.role.Role.TheVariants.{Other}
+use Rattle.replica_model.specs.declared.step.StepEvent.{StepEvent}
+use Rattle.replica_model.specs.declared.step.StepEvent.TheVariants as steps
 use Rattle.replica.specs.Open.{Open, shown_in, AgreesWith}
 use Rattle.txn_table.specs.Whole.{stable_told, stable_in}
-use Rattle.replica.specs.Step.{is_active, reply, begin_due, prev_of, logged_op, logged_call, logged_by, logged, going_in, epoch_in, placed, block, behind, lengthened, noted, answered, surveyed, stepped, committed_by, MayStep}
+use Rattle.replica_model.specs.Records.{begin_due, prev_of, logged_op, logged_call, placed}
+use Rattle.replica_model.specs.Steps.{noted}
+use Rattle.replica.specs.Step.{is_active, reply, logged_by, logged, going_in, epoch_in, block, behind, lengthened, answered, surveyed, stepped, committed_by, MayStep}
 use Rattle.replica.proofs.OneMore.{stable_push, commits_more}
 use Rattle.replica.proofs.OneRecord.{barrier_grows, epoch_starts}
 use Rattle.txn_front.proofs.Fronts.{IsOver-nothing}
@@ -64,8 +66,10 @@ records_surveyed v r epoch = elim (epoch_lt r.fence epoch) as (λ b. (after v (c
 pub records_after : (v : Kept) (r : Open) (event : StepEvent) → (after v (block r event)).records ≡ v.records ++ map (λ body. (epoch_in r event, body)) (logged r event)
 records_after v r (steps.Client call) = records_placed v r.last.0 r.epoch (logged_by r call)
 records_after v r (steps.Survey epoch) = records_surveyed v r epoch ∙ sym (append-nil v.records)
-records_after v r (steps.Start epoch) = records_placed v r.last.0 epoch (EpochStart epoch ∷ [])
+records_after v r (steps.Appoint a) = records_placed v r.last.0 a.epoch (EpochStart a.epoch ∷ [])
+records_after v r (steps.Activate epoch) = sym (append-nil v.records)
 records_after v r steps.Barrier = records_placed v r.last.0 r.epoch (Barrier r.stable ∷ [])
+records_after v r steps.Inspect = sym (append-nil v.records)
 
 identity_placed : (v : Kept) (last : ℕ) (epoch : Epoch) (bodies : List Record) → (after v (placed last epoch bodies)).identity ≡ v.identity
 identity_placed v last epoch [] = refl
@@ -74,8 +78,10 @@ identity_placed v last epoch (body ∷ bodies) = identity_placed (after_one v (L
 pub identity_after : (v : Kept) (r : Open) (event : StepEvent) → (after v (block r event)).identity ≡ v.identity
 identity_after v r (steps.Client call) = identity_placed v r.last.0 r.epoch (logged_by r call)
 identity_after v r (steps.Survey epoch) = elim (epoch_lt r.fence epoch) as (λ b. (after v (cond b (Fence epoch ∷ []) [] ++ [])).identity ≡ v.identity) [ true ↦ refl | false ↦ refl ]
-identity_after v r (steps.Start epoch) = identity_placed v r.last.0 epoch (EpochStart epoch ∷ [])
+identity_after v r (steps.Appoint a) = identity_placed v r.last.0 a.epoch (EpochStart a.epoch ∷ [])
+identity_after v r (steps.Activate epoch) = refl
 identity_after v r steps.Barrier = identity_placed v r.last.0 r.epoch (Barrier r.stable ∷ [])
+identity_after v r steps.Inspect = refl
 
 due_few : (t : TxnId) (going : Going) → length (begin_due t going) ≤ 1
 due_few t going = elim (going.last.0 == 0) as (λ b. length (cond b (Begin t ∷ []) []) ≤ 1) [ true ↦ omega arith | false ↦ omega arith ]
@@ -110,8 +116,10 @@ by_call P r call none some = by (txn_named call)
 pub logged_few : (r : Open) (event : StepEvent) → length (logged r event) ≤ 2
 logged_few r (steps.Client call) = by_call (λ bodies. length bodies ≤ 2) r call (omega arith) (λ t going. call_few r.last t going call (reply r call))
 logged_few r (steps.Survey epoch) = omega arith
-logged_few r (steps.Start epoch) = omega arith
+logged_few r (steps.Appoint a) = omega arith
+logged_few r (steps.Activate epoch) = omega arith
 logged_few r steps.Barrier = omega arith
+logged_few r steps.Inspect = omega arith
 
 -- ---- a survey
 
@@ -159,10 +167,12 @@ survey_steps r v epoch a = by (epoch_lt epoch r.fence) refl (epoch_lt r.fence ep
 pub steps_to : (r : Open) (v : Kept) (event : StepEvent) → AgreesWith r v → MayStep r event → StepsTo (stepped r event) v (block r event) (committed_by r event)
 steps_to r v (steps.Client call) a may = call_steps r v call a
 steps_to r v (steps.Survey epoch) a may = survey_steps r v epoch a
-steps_to r v (steps.Start epoch) a may =
-    let s = epoch_starts r v epoch a may in
+steps_to r v (steps.Appoint appointment) a may =
+    let s = epoch_starts r v appointment.epoch a may.above in
     record { goes_on = (s.may, tt); agrees = s.agrees; commits = s.commits ∙ sym (append-nil (commits_in v.records)) }
+steps_to r v (steps.Activate epoch) a may = rests r v a
 steps_to r v steps.Barrier a may = alone r (stepped r steps.Barrier) v (Barrier r.stable) [] (barrier_grows r v a may)
+steps_to r v steps.Inspect a may = rests r v a
 
 -- a step commits what it says
 pub commits_after : (r : Open) (v : Kept) (event : StepEvent) → AgreesWith r v → MayStep r event → commits_in (after v (block r event)).records ≡ commits_in v.records ++ committed_by r event
@@ -199,8 +209,10 @@ call_told n last t going (calls.Abort u) told = elim (going.last.0 == 0) as (λ 
 logged_told : (r : Open) (event : StepEvent) → AllTold r.stable.0 (logged r event)
 logged_told r (steps.Client call) = by_call (AllTold r.stable.0) r call tt (λ t going. call_told r.stable.0 r.last t going call (reply r call))
 logged_told r (steps.Survey epoch) = tt
-logged_told r (steps.Start epoch) = (omega arith, tt)
+logged_told r (steps.Appoint a) = (omega arith, tt)
+logged_told r (steps.Activate epoch) = tt
 logged_told r steps.Barrier = (omega arith, tt)
+logged_told r steps.Inspect = tt
 
 -- what the log shows, opened behind a step, was committed before the step
 pub shows_after : (r : Open) (v : Kept) (event : StepEvent) → AgreesWith r v → MayStep r event → (more : List Committed) × (shown_in (after v (block r event)).records ++ more ≡ commits_in v.records)
@@ -277,5 +289,7 @@ begins_few r (steps.Client call) = elim (is_active r.role) as (λ b. (cond b (an
   | false ↦ omega arith
 ]
 begins_few r (steps.Survey epoch) = elim (epoch_lt epoch r.fence) as (λ b. (cond b r (record r { fence = later r.fence epoch; role = Other; front = nothing no_epoch })).front.begins ≤ r.front.begins + 1) [ true ↦ omega arith | false ↦ omega arith ]
-begins_few r (steps.Start epoch) = omega arith
+begins_few r (steps.Appoint a) = omega arith
+begins_few r (steps.Activate epoch) = omega arith
 begins_few r steps.Barrier = omega arith
+begins_few r steps.Inspect = omega arith

@@ -32,8 +32,8 @@ use Rattle.txn_front.specs.Front.{Fronted, Going, IsOver, txn_at, numbered, goin
 use Rattle.log_store.specs.declared.kept.Kept.{Kept}
 use Rattle.txn_table.specs.Epochs.{later}
 use Rattle.log_store.specs.Growth.{MayCome, after_one}
-use Rattle.replica.specs.declared.role.Role.{Role}
-use Rattle.replica.specs.declared.role.Role.TheVariants.{Other, Primary}
+use Rattle.replica_model.specs.declared.role.Role.{Role}
+use Rattle.replica_model.specs.declared.role.Role.TheVariants.{Other, Primary}
 use Rattle.replica.specs.Open.{Open, commits_to, state_of, IsKnownAs, IsPrimary, HasRole, AgreesWith}
 use Rattle.txn_table.specs.Whole.{stable_told}
 use Rattle.replica.specs.Step.{is_active, behind, lengthened, started}

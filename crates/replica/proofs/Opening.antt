@@ -26,7 +26,7 @@ use Rattle.lock_laws.specs.OrderedStates.{IsOrdered}
 use Rattle.txn_front.specs.Front.{Fronted, nothing}
 use Rattle.lock_laws.proofs.ProtectedStates.{IsOrdered-nil, IsOrdered-folded}
 use Rattle.txn_front.proofs.Fronts.{IsOver-nothing}
-use Rattle.replica.specs.declared.role.Role.TheVariants.{Other}
+use Rattle.replica_model.specs.declared.role.Role.TheVariants.{Other}
 use Rattle.replica.specs.Open.{Open, commits_to, state_of, AgreesWith}
 use Rattle.txn_table.specs.Whole.{stable_told, stable_in}
 use Rattle.replica.specs.Reading.{IsRead, with_commit}

@@ -19,11 +19,12 @@ use Rattle.log_records.specs.declared.record.Physical.TheVariants.{Logical, Fenc
 use Rattle.log_records.specs.Spelling as spelling
 use Rattle.log_records.specs.Spelling.{is_key, is_value, physical, joined, OpFits, LogicalFits}
 use Rattle.barrier_group.specs.Group.{spelled}
-use Rattle.replica.specs.declared.step.StepEvent.{StepEvent}
-use Rattle.replica.specs.declared.step.StepEvent.TheVariants as steps
+use Rattle.replica_model.specs.declared.step.StepEvent.{StepEvent}
+use Rattle.replica_model.specs.declared.step.StepEvent.TheVariants as steps
 use Rattle.replica.specs.Logging.{AllFit}
 use Rattle.replica.specs.Open.{Open}
-use Rattle.replica.specs.Step.{logged_by, placed, block, MayStep}
+use Rattle.replica_model.specs.Records.{placed}
+use Rattle.replica.specs.Step.{logged_by, block, MayStep}
 use Rattle.replica.proofs.Lengthened.{logged_few}
 use Rattle.replica.proofs.Told.{logged_fits}
 
@@ -103,5 +104,7 @@ fence_short e false = omega arith
 pub block_short : (r : Open) (event : StepEvent) → MayStep r event → length (spelled (block r event)) ≤ 1048576
 block_short r (steps.Client call) may = omega (arith, placed_short r.last.0 r.epoch (logged_by r call) (logged_fits r (steps.Client call) may), logged_few r (steps.Client call))
 block_short r (steps.Survey epoch) may = omega (arith, fence_short epoch (epoch_lt r.fence epoch))
-block_short r (steps.Start epoch) may = omega (arith, placed_short r.last.0 epoch (EpochStart epoch ∷ []) (tt, tt))
+block_short r (steps.Appoint a) may = omega (arith, placed_short r.last.0 a.epoch (EpochStart a.epoch ∷ []) (tt, tt))
+block_short r (steps.Activate epoch) may = omega arith
 block_short r steps.Barrier may = omega (arith, placed_short r.last.0 r.epoch (Barrier r.stable ∷ []) (tt, tt))
+block_short r steps.Inspect may = omega arith

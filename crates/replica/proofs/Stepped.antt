@@ -17,13 +17,15 @@ use Rattle.txn_front.specs.Front as front
 use Rattle.txn_front.specs.Front.{Fronted, Going, AreAlike, going_of}
 use Rattle.log_store.specs.declared.kept.Kept.{Kept}
 use Rattle.log_store.specs.Store.{Store}
-use Rattle.replica.specs.declared.role.Role.{Role}
-use Rattle.replica.specs.declared.role.Role.TheVariants.{Other, Primary}
-use Rattle.replica.specs.declared.step.StepEvent.{StepEvent}
-use Rattle.replica.specs.declared.step.StepEvent.TheVariants as steps
+use Rattle.replica_model.specs.declared.role.Role.{Role}
+use Rattle.replica_model.specs.declared.role.Role.TheVariants.{Other, Primary}
+use Rattle.replica_model.specs.declared.step.StepEvent.{StepEvent}
+use Rattle.replica_model.specs.declared.step.StepEvent.TheVariants as steps
 use Rattle.replica.specs.Logging.{asked, changed}
 use Rattle.replica.specs.Open.{Open, AreSame, commits_to, HasRole, AgreesWith}
-use Rattle.replica.specs.Step.{is_active, answered, finished, logged, logged_by, epoch_in, fences, placed, block, stepped, lengthened, behind, noted}
+use Rattle.replica_model.specs.Records.{placed}
+use Rattle.replica_model.specs.Steps.{noted}
+use Rattle.replica.specs.Step.{is_active, answered, finished, logged, logged_by, epoch_in, fences, block, stepped, lengthened, behind}
 use Rattle.replica.proofs.OneMore.{commits_few}
 use Rattle.replica.proofs.OneRecord.{known_still}
 use Rattle.txn_front.proofs.Fronts.{IsOver-alike, AreAlike-itself, AreAlike-trans, logged-alike, ended-alike}
@@ -150,8 +152,10 @@ changed_same r log f (steps.Survey epoch) h = by (epoch_lt epoch r.fence)
         (record (cond b r (record r { fence = later r.fence epoch; role = Other; front = front.nothing no_epoch })) { log = log })
     by true = record { same = refl; front = h }
     by false = record { same = refl; front = AreAlike-itself (front.nothing no_epoch) }
-changed_same r log f (steps.Start epoch) h = record { same = refl; front = AreAlike-itself (front.nothing epoch) }
+changed_same r log f (steps.Appoint a) h = record { same = refl; front = AreAlike-itself (front.nothing a.epoch) }
+changed_same r log f (steps.Activate epoch) h = record { same = refl; front = h }
 changed_same r log f steps.Barrier h = record { same = refl; front = h }
+changed_same r log f steps.Inspect h = record { same = refl; front = h }
 
 -- the replica behind the parts of a step is the one behind the step
 pub parts_same : (r m new : Open) (event : StepEvent) (count : ℕ) → m ≡ record r { log = m.log; front = m.front } → AreAlike m.front (asked r event) → count ≡ length (logged r event) → AreSame new (changed count m event)
@@ -182,8 +186,10 @@ block_is r mid event bodies items first logs is =
     by : (event : StepEvent) → fences (record r { front = mid.front }) event ++ placed r.last.0 (epoch_in (record r { front = mid.front }) event) (logged r event) ≡ block r event
     by (steps.Client call) = refl
     by (steps.Survey epoch) = refl
-    by (steps.Start epoch) = refl
+    by (steps.Appoint a) = refl
+    by (steps.Activate epoch) = refl
     by steps.Barrier = refl
+    by steps.Inspect = refl
 
 pub behind_parts : (r mid m new : Open) (event : StepEvent) (count : ℕ) (bodies : List Record) → mid ≡ record r { front = mid.front } → m ≡ record mid { log = m.log } → AreAlike mid.front (asked r event)
     → bodies ≡ logged r event → count ≡ length bodies → AreSame new (changed count m event) → AreSame new (record (stepped r event) { log = m.log })

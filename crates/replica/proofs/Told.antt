@@ -28,13 +28,15 @@ use Rattle.txn_table.specs.Epochs.{later}
 use Rattle.log_store.specs.Store.{Store}
 use Rattle.txn_front.specs.Front as front
 use Rattle.txn_front.specs.Front.{Fronted, Going, AreAlike, going_of, txn_at}
-use Rattle.replica.specs.declared.role.Role.TheVariants.{Other}
-use Rattle.replica.specs.declared.step.StepEvent.{StepEvent}
-use Rattle.replica.specs.declared.step.StepEvent.TheVariants as steps
-use Rattle.replica.specs.declared.step.Outcome.{Outcome}
+use Rattle.replica_model.specs.declared.role.Role.TheVariants.{Other}
+use Rattle.replica_model.specs.declared.step.StepEvent.{StepEvent}
+use Rattle.replica_model.specs.declared.step.StepEvent.TheVariants as steps
+use Rattle.replica_model.specs.declared.step.Outcome.{Outcome}
 use Rattle.replica.specs.Logging.{IsReplyTo, AllFit, asked, last_named, logged_to, answer_of, shown_one, told_commit, told_then}
 use Rattle.replica.specs.Open.{Open}
-use Rattle.replica.specs.Step.{is_active, reply, going_in, logged_op, logged_call, logged_by, logged, quiet, shown_commits, committed_at, survey_answer, outcome, KeyCallFits, CallFits, MayStep}
+use Rattle.replica_model.specs.Records.{logged_op, logged_call}
+use Rattle.replica_model.specs.Steps.{KeyCallFits, CallFits}
+use Rattle.replica.specs.Step.{is_active, reply, going_in, logged_by, logged, quiet, shown_commits, committed_at, survey_answer, outcome, MayStep}
 use Rattle.replica.proofs.Calls.{IsLive, reply_live, replies_live, logs_live, logs_none}
 use Rattle.replica.proofs.Lengthened.{by_call}
 use Rattle.replica.proofs.Puts.{alike_going}
@@ -126,8 +128,10 @@ told_in r log f (steps.Survey epoch) told h is = by (epoch_lt epoch r.fence)
         ≡ quiet (cond b r (record r { fence = later r.fence epoch; role = Other; front = front.nothing no_epoch })) (Some (survey_answer r epoch))
     by true = refl
     by false = refl
-told_in r log f (steps.Start epoch) told h is = refl
+told_in r log f (steps.Appoint a) told h is = refl
+told_in r log f (steps.Activate epoch) told h is = refl
 told_in r log f steps.Barrier told h is = refl
+told_in r log f steps.Inspect told h is = refl
 
 -- what is told of a step is its outcome
 pub parts_told : (r m : Open) (event : StepEvent) (told : Option Reply) → m ≡ kept_in m.log m.front r → AreAlike m.front (asked r event) → IsReplyTo r event told → told_then m event told ≡ outcome r event
@@ -266,5 +270,7 @@ call_fits last t going (calls.Abort u) told h = elim (going.last.0 == 0) as (λ 
 pub logged_fits : (r : Open) (event : StepEvent) → MayStep r event → AllFit (logged r event)
 logged_fits r (steps.Client call) may = by_call AllFit r call tt (λ t going. call_fits r.last t going call (reply r call) (told_spelled r call may))
 logged_fits r (steps.Survey epoch) may = tt
-logged_fits r (steps.Start epoch) may = (tt, tt)
+logged_fits r (steps.Appoint a) may = (tt, tt)
+logged_fits r (steps.Activate epoch) may = tt
 logged_fits r steps.Barrier may = (tt, tt)
+logged_fits r steps.Inspect may = tt

@@ -13,9 +13,9 @@ use Rattle.log_records.specs.declared.record.Record.{Record}
 use Rattle.log_records.specs.Spelling.{LogicalFits}
 use Rattle.txn_front.specs.Front as front
 use Rattle.txn_front.specs.Front.{Fronted, Going, going_of}
-use Rattle.replica.specs.declared.step.StepEvent.{StepEvent}
-use Rattle.replica.specs.declared.step.StepEvent.TheVariants as steps
-use Rattle.replica.specs.declared.step.Outcome.{Outcome}
+use Rattle.replica_model.specs.declared.step.StepEvent.{StepEvent}
+use Rattle.replica_model.specs.declared.step.StepEvent.TheVariants as steps
+use Rattle.replica_model.specs.declared.step.Outcome.{Outcome}
 use Rattle.replica.specs.Open.{Open}
 use Rattle.replica.specs.Step.{is_active, reply, finished, stepped, quiet, outcome}
 
@@ -25,8 +25,10 @@ use Rattle.replica.specs.Step.{is_active, reply, finished, stepped, quiet, outco
 abbrev pub IsReplyTo : Open → StepEvent → Option Reply → Type 0
 IsReplyTo r (steps.Client call) told = told ≡ reply r call
 IsReplyTo r (steps.Survey epoch) told = Unit {0}
-IsReplyTo r (steps.Start epoch) told = Unit {0}
+IsReplyTo r (steps.Appoint a) told = Unit {0}
+IsReplyTo r (steps.Activate epoch) told = Unit {0}
 IsReplyTo r steps.Barrier told = Unit {0}
+IsReplyTo r steps.Inspect told = Unit {0}
 
 -- what goes on once the call of a step was answered
 abbrev pub asked : Open → StepEvent → Fronted

@@ -1,36 +1,34 @@
 -- A step of an open replica: what it logs, what it answers, and what it keeps then.
-use Rattle.std.specs.Prelude.{◌≡◌, ℕ, zero, suc, ◌+◌, Bool, true, false, ◌==◌, List, [], ◌∷◌, ◌++◌, length, flat_map, map, Option, Some, None, option_and_then, if◌then◌else◌, IsTrue}
+use Rattle.std.specs.Prelude.{◌≡◌, ℕ, zero, suc, ◌+◌, Bool, true, false, List, [], ◌∷◌, ◌++◌, length, flat_map, map, Option, Some, None, if◌then◌else◌}
 use Rattle.std.specs.Option.{option_map_or}
 use Rattle.rc_base.specs.declared.ids.Epoch.{Epoch}
 use Rattle.rc_base.specs.declared.ids.Lsn.{Lsn}
 use Rattle.rc_base.specs.declared.ids.TxnId.{TxnId}
 use Rattle.rc_base.specs.Ids.{no_epoch, epoch_lt}
-use Rattle.rc_base.specs.Names.{is_name}
-use Rattle.coll_model.specs.declared.op.Op.{Op}
 use Rattle.coll_model.specs.Effect.{folded}
+use Rattle.config_rule.specs.declared.appointments.Appointment.{Appointment}
 use Rattle.events.specs.declared.call.Call.{Call}
 use Rattle.events.specs.declared.call.Call.TheVariants as calls
-use Rattle.events.specs.declared.call.KeyCall.{KeyCall}
-use Rattle.events.specs.declared.call.KeyCall.TheVariants as key_calls
 use Rattle.events.specs.declared.answer.Answer.{Answer}
 use Rattle.events.specs.declared.answer.Answer.TheVariants as answers
 use Rattle.events.specs.declared.answer.Reply.{Reply}
 use Rattle.events.specs.Answers.{plain}
 use Rattle.events.specs.Calls.{txn_named}
 use Rattle.log_records.specs.declared.record.Record.{Record}
-use Rattle.log_records.specs.declared.record.Record.TheVariants.{Begin, Operation, End, Barrier, EpochStart}
+use Rattle.log_records.specs.declared.record.Record.TheVariants.{Barrier, EpochStart}
 use Rattle.log_records.specs.declared.record.Physical.{Physical}
-use Rattle.log_records.specs.declared.record.Physical.TheVariants.{Logical, Fence}
-use Rattle.log_records.specs.Spelling.{is_key, is_value}
+use Rattle.log_records.specs.declared.record.Physical.TheVariants.{Fence}
 use Rattle.txn_table.specs.declared.committed.Committed.{Committed}
 use Rattle.txn_front.specs.Front as front
 use Rattle.txn_front.specs.Front.{Fronted, Going, going_of, nothing}
 use Rattle.txn_table.specs.Epochs.{later}
-use Rattle.replica.specs.declared.role.Role.{Role}
-use Rattle.replica.specs.declared.role.Role.TheVariants.{Other, Primary}
-use Rattle.replica.specs.declared.step.StepEvent.{StepEvent}
-use Rattle.replica.specs.declared.step.StepEvent.TheVariants as steps
-use Rattle.replica.specs.declared.step.Outcome.{Outcome}
+use Rattle.replica_model.specs.declared.role.Role.{Role}
+use Rattle.replica_model.specs.declared.role.Role.TheVariants.{Other, Primary}
+use Rattle.replica_model.specs.declared.step.StepEvent.{StepEvent}
+use Rattle.replica_model.specs.declared.step.StepEvent.TheVariants as steps
+use Rattle.replica_model.specs.declared.step.Outcome.{Outcome}
+use Rattle.replica_model.specs.Records.{logged_call, placed}
+use Rattle.replica_model.specs.Steps.{CallFits, noted}
 use Rattle.replica.specs.Open.{Open}
 
 -- ---- the answer to a call
@@ -46,31 +44,6 @@ reply r call = if is_active r.role then front.told r.front r.contents call else 
 
 -- ---- what a step logs
 
--- a Begin precedes the first record of a transaction
-abbrev pub begin_due : TxnId → Going → List Record
-begin_due t going = if going.last.0 == 0 then Begin t ∷ [] else []
-
--- the record of the transaction before the one that a step logs, in a log with this last position
-abbrev pub prev_of : Lsn → Going → Lsn
-prev_of last going = if going.last.0 == 0 then record { 0 = last.0 + 1 } else going.last
-
--- an operation of what goes on; its end by a commit; and its end by an abort, where it has records
-abbrev pub logged_op : Lsn → TxnId → Going → Option Op → List Record
-logged_op last t going None = []
-logged_op last t going (Some op) = begin_due t going ++ Operation t (prev_of last going) op ∷ []
-
-abbrev pub logged_commit : Lsn → TxnId → Going → List Record
-logged_commit last t going = begin_due t going ++ End t (prev_of last going) true ∷ []
-
-abbrev pub logged_abort : TxnId → Going → List Record
-logged_abort t going = if going.last.0 == 0 then [] else End t going.last false ∷ []
-
--- a call of a transaction that goes on, which was answered so
-abbrev pub logged_call : Lsn → TxnId → Going → Call → Option Reply → List Record
-logged_call last t going (calls.Commit u) told = logged_commit last t going
-logged_call last t going (calls.Abort u) told = logged_abort t going
-logged_call last t going call told = logged_op last t going (option_and_then (λ reply. reply.op) told)
-
 -- the transaction of the call, where it goes on at an active primary
 abbrev pub going_in : Open → TxnId → Option Going
 going_in r t = if is_active r.role then going_of r.front t else None
@@ -81,18 +54,15 @@ logged_by r call = option_map_or (λ t. option_map_or (λ going. logged_call r.l
 abbrev pub logged : Open → StepEvent → List Record
 logged r (steps.Client call) = logged_by r call
 logged r (steps.Survey epoch) = []
-logged r (steps.Start epoch) = EpochStart epoch ∷ []
+logged r (steps.Appoint a) = EpochStart a.epoch ∷ []
+logged r (steps.Activate epoch) = []
 logged r steps.Barrier = Barrier r.stable ∷ []
+logged r steps.Inspect = []
 
 -- the epoch in which it logs
 abbrev pub epoch_in : Open → StepEvent → Epoch
-epoch_in r (steps.Start epoch) = epoch
+epoch_in r (steps.Appoint a) = a.epoch
 epoch_in r _ = r.epoch
-
--- the records at the positions behind this one
-abbrev pub placed : ℕ → Epoch → List Record → List Physical
-placed last epoch [] = []
-placed last epoch (body ∷ bodies) = Logical (record { 0 = last + 1 }) epoch body ∷ placed (last + 1) epoch bodies
 
 -- a survey raises the fence
 abbrev pub fences : Open → StepEvent → List Physical
@@ -114,11 +84,6 @@ abbrev pub lengthened : ℕ → Epoch → Open → Open
 lengthened zero epoch r = r
 lengthened (suc n) epoch r =
     record r { fence = later r.fence epoch; epoch = epoch; last = behind r.last (suc n); stable = behind r.last (suc n) }
-
--- the last of so many records of a call is the last one of its transaction
-abbrev pub noted : ℕ → Call → Lsn → Fronted → Fronted
-noted zero call lsn f = f
-noted (suc n) call lsn f = option_map_or (λ t. front.logged f t lsn) (txn_named call) f
 
 -- so many records of a commit: what the transaction did is shown
 abbrev pub committed : ℕ → TxnId → Open → Open
@@ -143,7 +108,7 @@ called r call = if is_active r.role then answered (length (logged_by r call)) ca
 abbrev pub surveyed : Epoch → Open → Open
 surveyed epoch r = if epoch_lt epoch r.fence then r else record r { fence = later r.fence epoch; role = Other; front = nothing no_epoch }
 
--- An epoch was started: the replica is its primary, and shows all that its log commits.
+-- An epoch was started: the replica is its primary, and shows all that its log commits. It needs no quorum but itself.
 abbrev pub started : Epoch → Open → Open
 started epoch r = record (lengthened 1 epoch r) {
   shown = r.shown + length r.ahead;
@@ -156,8 +121,10 @@ started epoch r = record (lengthened 1 epoch r) {
 abbrev pub stepped : Open → StepEvent → Open
 stepped r (steps.Client call) = called r call
 stepped r (steps.Survey epoch) = surveyed epoch r
-stepped r (steps.Start epoch) = started epoch r
+stepped r (steps.Appoint a) = started a.epoch r
+stepped r (steps.Activate epoch) = r
 stepped r steps.Barrier = lengthened 1 r.epoch r
+stepped r steps.Inspect = r
 
 -- ---- what it tells
 
@@ -184,29 +151,27 @@ survey_answer r epoch = if epoch_lt epoch r.fence then answers.IgnoredOldEpoch r
 abbrev pub outcome : Open → StepEvent → Outcome
 outcome r (steps.Client call) = option_map_or (λ told. quiet r (Some told.answer)) (reply r call) (shown_commits r (committed_by r (steps.Client call)))
 outcome r (steps.Survey epoch) = quiet (surveyed epoch r) (Some (survey_answer r epoch))
-outcome r (steps.Start epoch) = record { answer = None; commits = r.ahead; acknowledged = []; shown = r.shown + length r.ahead; active = true; barrier_due = true }
+outcome r (steps.Appoint a) = record { answer = None; commits = r.ahead; acknowledged = []; shown = r.shown + length r.ahead; active = true; barrier_due = true }
+outcome r (steps.Activate epoch) = quiet r None
 outcome r steps.Barrier = quiet r None
+outcome r steps.Inspect = quiet r None
 
 -- ---- which steps there are
 
--- the words of what a call logs have a spelling
-abbrev pub KeyCallFits : List ℕ → List ℕ → KeyCall → Type 0
-KeyCallFits name key key_calls.Get = Unit {0}
-KeyCallFits name key key_calls.GetForUpdate = Unit {0}
-KeyCallFits name key (key_calls.Set value) = IsTrue (is_name name) × IsTrue (is_key key) × IsTrue (is_value value)
-KeyCallFits name key (key_calls.Add value) = IsTrue (is_name name) × IsTrue (is_key key) × IsTrue (is_value value)
-KeyCallFits name key key_calls.Delete = IsTrue (is_name name) × IsTrue (is_key key)
+-- An appointment to an epoch above that of the last record, of this replica, which is the one member of it and of the
+-- configuration before.
+pub record MayLeadAlone (r : Open) (a : Appointment) : Type 0 where
+  pub above : epoch_lt r.epoch a.epoch ≡ true
+  pub own : a.primary ≡ r.id
+  pub alone : a.cc ≡ r.id ∷ []
+  pub alone_before : a.pc ≡ r.id ∷ []
 
-abbrev pub CallFits : Call → Type 0
-CallFits calls.Begin = Unit {0}
-CallFits (calls.Make t name kind) = IsTrue (is_name name)
-CallFits (calls.OnKey t name key call) = KeyCallFits name key call
-CallFits (calls.Commit t) = Unit {0}
-CallFits (calls.Abort t) = Unit {0}
-
--- An epoch that is started is above that of the last record, and a Barrier comes to an active primary.
+-- The conditions of a step: the words of a call fit, an appointment is one of this replica alone, and a Barrier comes to an
+-- active primary.
 abbrev pub MayStep : Open → StepEvent → Type 0
 MayStep r (steps.Client call) = CallFits call
 MayStep r (steps.Survey epoch) = Unit {0}
-MayStep r (steps.Start epoch) = epoch_lt r.epoch epoch ≡ true
+MayStep r (steps.Appoint a) = MayLeadAlone r a
+MayStep r (steps.Activate epoch) = Unit {0}
 MayStep r steps.Barrier = is_active r.role ≡ true
+MayStep r steps.Inspect = Unit {0}

@@ -7,11 +7,11 @@ ghost use Rattle.txn_table.specs.Log.{IsLog};
 ghost use Rattle.txn_table.specs.Whole as whole;
 ghost use Rattle.replica.specs.Reading.{IsRead, with_commit};
 
-use crate::commits::Commits;
 use crate::effects::apply_all;
 use coll_model::State;
 use log_records::{Pending, Record};
 use rc_base::{Epoch, Lsn, NoMemory};
+use replica_model::Commits;
 use std::alloc::Global;
 use txn_table::{Committed, Table, TableError};
 

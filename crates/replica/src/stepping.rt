@@ -11,27 +11,27 @@ ghost use Rattle.log_store.specs.Durable.{StandFor, StandForOneOf, KeepsSlots};
 ghost use Rattle.log_store.specs.Growth.{GoesOn, after};
 ghost use Rattle.log_store.specs.Store.{IsOpenOn};
 ghost use Rattle.replica.specs.declared.error.StepError.TheVariants as errors;
-ghost use Rattle.replica.specs.declared.step.StepEvent.TheVariants as steps;
+ghost use Rattle.replica_model.specs.declared.step.StepEvent.TheVariants as steps;
 ghost use Rattle.replica.specs.Logging as parts;
 ghost use Rattle.replica.specs.Logging.{IsReplyTo, AllFit};
 ghost use Rattle.replica.specs.Open.{AreSame};
 ghost use Rattle.replica.specs.Step as spec;
+ghost use Rattle.replica_model.specs.Records as records;
+ghost use Rattle.replica_model.specs.Steps as model;
 
-use crate::commits::Commits;
 use crate::effects::{apply_all, apply_commits};
 use crate::epochs::later;
 use crate::error::StepError;
 use crate::replica::Replica;
-use crate::role::Role;
-use crate::step::{Outcome, StepEvent};
-use crate::txn_ids::TxnIds;
 use barrier_group::Group;
 use coll_model::{Op, Ops};
+use config_rule::Appointment;
 use disk_model::Disk;
 use events::{Answer, Call, Reply};
 use gated_log::LogError;
 use log_records::{Physical, Record};
 use rc_base::{Epoch, Lsn, NoMemory, TxnId};
+use replica_model::{Commits, Outcome, Role, StepEvent, TxnIds};
 use std::mem;
 use txn_front::Front;
 use txn_table::Committed;
@@ -65,9 +65,12 @@ impl Replica {
     {
         match event {
             StepEvent::Client(call) => self.answer_call(call),
-            StepEvent::Survey { .. } => Ok((None, Vec::new(self.alloc))),
-            StepEvent::Start { epoch } => {
-                Ok((None, self.alone(Record::EpochStart { epoch: *epoch })?))
+            StepEvent::Survey { .. } | StepEvent::Activate { .. } | StepEvent::Inspect => {
+                Ok((None, Vec::new(self.alloc)))
+            }
+            StepEvent::Appoint(appointment) => {
+                let epoch = appointment.epoch;
+                Ok((None, self.alone(Record::EpochStart { epoch })?))
             }
             StepEvent::Barrier => {
                 let stable = self.stable;
@@ -125,7 +128,7 @@ impl Replica {
         reply: Option<&Reply>,
     ) -> Result<Vec<Record>, NoMemory>
         requires { self.now.last.0 + 1 < 2 ^ 64 }
-        ensures { IfOk result (λ bodies. bodies.items ≡ spec.logged_call self.now.last txn (parts.logged_to last) call.now (option_copied reply.entry)) }
+        ensures { IfOk result (λ bodies. bodies.items ≡ records.logged_call self.now.last txn (parts.logged_to last) call.now (option_copied reply.entry)) }
     {
         match call {
             Call::Commit(_) => self.logged_commit(txn, last),
@@ -139,7 +142,7 @@ impl Replica {
 
     fn logged_op(&self, txn: TxnId, last: Lsn, op: &Op) -> Result<Vec<Record>, NoMemory>
         requires { self.now.last.0 + 1 < 2 ^ 64 }
-        ensures { IfOk result (λ bodies. bodies.items ≡ spec.logged_op self.now.last txn (parts.logged_to last) (Some op.now)) }
+        ensures { IfOk result (λ bodies. bodies.items ≡ records.logged_op self.now.last txn (parts.logged_to last) (Some op.now)) }
     {
         let mut bodies = self.begin_due(txn, last)?;
         bodies.push(Record::Operation {
@@ -152,7 +155,7 @@ impl Replica {
 
     fn logged_commit(&self, txn: TxnId, last: Lsn) -> Result<Vec<Record>, NoMemory>
         requires { self.now.last.0 + 1 < 2 ^ 64 }
-        ensures { IfOk result (λ bodies. bodies.items ≡ spec.logged_commit self.now.last txn (parts.logged_to last)) }
+        ensures { IfOk result (λ bodies. bodies.items ≡ records.logged_commit self.now.last txn (parts.logged_to last)) }
     {
         let mut bodies = self.begin_due(txn, last)?;
         bodies.push(Record::End {
@@ -165,7 +168,7 @@ impl Replica {
 
     // An End, where the transaction has records.
     fn logged_abort(&self, txn: TxnId, last: Lsn) -> Result<Vec<Record>, NoMemory>
-        ensures { IfOk result (λ bodies. bodies.items ≡ spec.logged_abort txn (parts.logged_to last)) }
+        ensures { IfOk result (λ bodies. bodies.items ≡ records.logged_abort txn (parts.logged_to last)) }
     {
         if last.0 == 0 {
             return Ok(Vec::new(self.alloc));
@@ -179,7 +182,7 @@ impl Replica {
 
     // A Begin, before the first record of a transaction.
     fn begin_due(&self, txn: TxnId, last: Lsn) -> Result<Vec<Record>, NoMemory>
-        ensures { IfOk result (λ bodies. bodies.items ≡ spec.begin_due txn (parts.logged_to last)) }
+        ensures { IfOk result (λ bodies. bodies.items ≡ records.begin_due txn (parts.logged_to last)) }
     {
         if last.0 == 0 {
             self.alone(Record::Begin { txn })
@@ -191,7 +194,7 @@ impl Replica {
     // The position of the transaction's record before the one that is logged next.
     fn prev_of(&self, last: Lsn) -> Lsn
         requires { self.now.last.0 + 1 < 2 ^ 64 }
-        ensures { result ≡ spec.prev_of self.now.last (parts.logged_to last) }
+        ensures { result ≡ records.prev_of self.now.last (parts.logged_to last) }
     {
         if last.0 == 0 {
             Lsn(self.last.0 + 1)
@@ -205,8 +208,12 @@ impl Replica {
         ensures { result ≡ spec.epoch_in self.now event.now }
     {
         match event {
-            StepEvent::Start { epoch } => *epoch,
-            StepEvent::Client(_) | StepEvent::Survey { .. } | StepEvent::Barrier => self.epoch,
+            StepEvent::Appoint(appointment) => appointment.epoch,
+            StepEvent::Client(_)
+            | StepEvent::Survey { .. }
+            | StepEvent::Activate { .. }
+            | StepEvent::Barrier
+            | StepEvent::Inspect => self.epoch,
         }
     }
 
@@ -214,7 +221,7 @@ impl Replica {
     pub(crate) fn block(&self, event: &StepEvent, bodies: Vec<Record>) -> Result<Group, NoMemory>
         requires room { self.now.last.0 + length bodies.items < 2 ^ 64 }
         requires fit { AllFit bodies.items }
-        ensures { IfOk result (λ block. block ≡ spec.fences self.now event.now ++ spec.placed self.now.last.0 (spec.epoch_in self.now event.now) bodies.items) }
+        ensures { IfOk result (λ block. block ≡ spec.fences self.now event.now ++ records.placed self.now.last.0 (spec.epoch_in self.now event.now) bodies.items) }
     {
         let mut block = self.fences(event)?;
         let epoch = self.epoch_in(event);
@@ -307,8 +314,9 @@ impl Replica {
         match event {
             StepEvent::Client(call) => self.called(call, reply, count),
             StepEvent::Survey { epoch } => Ok(self.surveyed(*epoch)),
-            StepEvent::Start { epoch } => self.started(*epoch),
+            StepEvent::Appoint(appointment) => self.started(appointment),
             StepEvent::Barrier => Ok(self.held()),
+            StepEvent::Activate { .. } | StepEvent::Inspect => Ok(self.quiet(None)),
         }
     }
 
@@ -388,7 +396,7 @@ impl Replica {
     // The call logged so many records, the last of which is its transaction's last one.
     fn noted(&mut self, call: &Call, count: u64)
         requires { self.old.last.0 + count < 2 ^ 64 }
-        ensures { self.new ≡ record (spec.lengthened count self.old.epoch self.old) { front = spec.noted count call.now (spec.behind self.old.last count) self.old.front } }
+        ensures { self.new ≡ record (spec.lengthened count self.old.epoch self.old) { front = model.noted count call.now (spec.behind self.old.last count) self.old.front } }
     {
         if count == 0 {
             return;
@@ -413,13 +421,14 @@ impl Replica {
         self.quiet(Some(Answer::Progress(self.id, self.epoch, self.last.0)))
     }
 
-    // An epoch was started: what its log commits is shown.
-    fn started(&mut self, epoch: Epoch) -> Result<Outcome, NoMemory>
+    // The epoch of an appointment was started: what the log commits is shown.
+    fn started(&mut self, appointment: &Appointment) -> Result<Outcome, NoMemory>
         requires room { self.old.last.0 + 1 < 2 ^ 64 }
         requires counted { self.old.shown + length self.old.ahead < 2 ^ 64 }
-        ensures kept { OnOk result (self.new ≡ spec.started epoch self.old) }
-        ensures told { IfOk result (λ told. told ≡ spec.outcome self.old (steps.Start epoch)) }
+        ensures kept { OnOk result (self.new ≡ spec.started appointment.now.epoch self.old) }
+        ensures told { IfOk result (λ told. told ≡ spec.outcome self.old (steps.Appoint appointment.now)) }
     {
+        let epoch = appointment.epoch;
         let ahead = mem::replace(&mut self.ahead, Commits::new(self.alloc));
         apply_commits(&mut self.contents, ahead.as_slice())?;
         self.lengthen(1, epoch);

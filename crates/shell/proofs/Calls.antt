@@ -12,7 +12,7 @@ use Rattle.events.specs.declared.call.Call.TheVariants as calls
 use Rattle.events.specs.declared.call.KeyCall.{KeyCall}
 use Rattle.events.specs.declared.call.KeyCall.TheVariants.{Get, GetForUpdate, Set, Add, Delete}
 use Rattle.script_text.specs.Sentence.{IsBuilt, IsBuiltCall, GivesValueWord}
-use Rattle.replica.specs.Step.{CallFits, KeyCallFits}
+use Rattle.replica_model.specs.Steps.{CallFits, KeyCallFits}
 use Rattle.world.specs.World.{IsHere}
 
 first_true : (a b : Bool) → IsTrue (a && b) → IsTrue a

@@ -15,8 +15,8 @@ use Rattle.script_text.specs.Sentence.{Spells}
 use Rattle.order_machine.specs.declared.observation.Observation.{Observation}
 use Rattle.order_machine.specs.Machine.{Machine, is_booted, empty_machine}
 use Rattle.order_machine.specs.Legal.{Step, moved_all}
-use Rattle.replica.specs.declared.role.Role.{Role}
-use Rattle.replica.specs.declared.role.Role.TheVariants.{Other, Primary}
+use Rattle.replica_model.specs.declared.role.Role.{Role}
+use Rattle.replica_model.specs.declared.role.Role.TheVariants.{Other, Primary}
 use Rattle.replica.specs.Open.{Open}
 use Rattle.world.specs.declared.error.WorldError.{WorldError}
 use Rattle.world.specs.Disks.{DiskHolds, DisksHold, QuorumHolds}

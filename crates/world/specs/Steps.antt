@@ -2,18 +2,20 @@
 use Rattle.std.specs.Prelude.{◌≡◌, ◌≢◌, ◌⊎◌, ℕ, ◌+◌, ◌-◌, nat_lt, max, drop, length, Bool, true, false, not, ◌&&◌, ◌||◌, List, [], ◌∷◌, ◌++◌, map, Option, Some, None, option_map, Ok, if◌then◌else◌}
 use Rattle.std.specs.List.{cons_option}
 use Rattle.disk_model.specs.Disk.{Areas, Each}
+use Rattle.config_rule.specs.declared.appointments.Appointment.{Appointment}
 use Rattle.txn_table.specs.declared.committed.Committed.{Committed}
 use Rattle.log_store.specs.declared.kept.Kept.{Kept as Log}
 use Rattle.log_store.specs.Durable.{durable, StandForOneOf}
 use Rattle.log_store.specs.Growth.{after}
 use Rattle.order_machine.specs.declared.observation.Observation.{Observation}
 use Rattle.order_machine.specs.declared.observation.Observation.TheVariants as says
-use Rattle.replica.specs.declared.step.Outcome.{Outcome}
-use Rattle.replica.specs.declared.step.StepEvent.{StepEvent}
-use Rattle.replica.specs.declared.step.StepEvent.TheVariants as steps
+use Rattle.replica_model.specs.declared.step.Outcome.{Outcome}
+use Rattle.replica_model.specs.declared.step.StepEvent.{StepEvent}
+use Rattle.replica_model.specs.declared.step.StepEvent.TheVariants as steps
 use Rattle.replica.specs.Open.{Open}
 use Rattle.replica.specs.Step.{block, outcome, stepped, is_active}
 use Rattle.order_machine.specs.AnswerLines.{line_of_answer}
+use Rattle.order_machine.specs.Transitions.{first_epoch}
 use Rattle.rc_base.specs.declared.ids.Epoch.{Epoch}
 use Rattle.rc_base.specs.declared.ids.Lsn.{Lsn}
 use Rattle.events.specs.declared.answer.Answer.{Answer}
@@ -56,6 +58,16 @@ abbrev pub progress_in : Option Answer → Option (Epoch × Lsn)
 progress_in (Some (answers.Progress r last_epoch last)) = Some (last_epoch, record { 0 = last })
 progress_in _ = None
 
+-- ---- appointments
+
+-- that of replica 0, alone, to an epoch, where it was alone before
+abbrev pub appointment_alone : Epoch → Appointment
+appointment_alone epoch = record { epoch = epoch; primary = 0; pc = 0 ∷ []; cc = 0 ∷ [] }
+
+-- that of the boot
+abbrev pub first_appointment : Appointment
+first_appointment = appointment_alone first_epoch
+
 -- ---- what an event has done so far
 
 -- nothing yet, where the order has so many transactions
@@ -70,11 +82,11 @@ effects_after p r event = record {
   lines = p.lines ++ told_by r event;
 }
 
--- after the step with which a replica starts an epoch, and its answer
-abbrev pub effects_started : EventEffects → Epoch → Open → EventEffects
-effects_started p epoch r = record {
-  order = max p.order (outcome r (steps.Start epoch)).shown;
-  active = p.active || (outcome r (steps.Start epoch)).active;
+-- after the step with which a replica starts the epoch of an appointment, and its answer
+abbrev pub effects_started : EventEffects → Appointment → Open → EventEffects
+effects_started p a r = record {
+  order = max p.order (outcome r (steps.Appoint a)).shown;
+  active = p.active || (outcome r (steps.Appoint a)).active;
   lines = (p.lines ++ told_start p.order r) ++ says.Done ∷ [];
 }
 

@@ -14,10 +14,10 @@ use Rattle.order_machine.specs.declared.observation.Observation.{Observation}
 use Rattle.order_machine.specs.Order.{Entry, length_of}
 use Rattle.order_machine.specs.Machine.{Machine, Txn, empty_machine, is_booted, order_of}
 use Rattle.order_machine.specs.Legal.{IsWhole, IsBegun, moved}
-use Rattle.replica.specs.declared.role.Role.{Role}
-use Rattle.replica.specs.declared.role.Role.TheVariants.{Other, Primary}
+use Rattle.replica_model.specs.declared.role.Role.{Role}
+use Rattle.replica_model.specs.declared.role.Role.TheVariants.{Other, Primary}
 use Rattle.replica.specs.Open.{Open, AgreesWith, commits_to, shown_in}
-use Rattle.replica.specs.Step.{CallFits}
+use Rattle.replica_model.specs.Steps.{CallFits}
 use Rattle.world.specs.declared.error.WorldError.{WorldError}
 use Rattle.world.specs.declared.error.WorldError.TheVariants as errors
 use Rattle.txn_front.specs.Front.{Going, going_of}

@@ -7,7 +7,7 @@ ghost use Rattle.log_store.specs.Store.{KeepsOrBegins};
 ghost use Rattle.order_machine.specs.declared.observation.Observation.TheVariants as says;
 ghost use Rattle.rc_base.specs.Ids.{no_epoch};
 ghost use Rattle.txn_front.specs.Front.{nothing};
-ghost use Rattle.replica.specs.declared.role.Role.TheVariants.{Other};
+ghost use Rattle.replica_model.specs.declared.role.Role.TheVariants.{Other};
 ghost use Rattle.txn_table.specs.Whole.{stable_in};
 ghost use Rattle.world.specs.World.{IsOpen};
 

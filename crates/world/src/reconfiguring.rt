@@ -5,6 +5,7 @@ ghost use Rattle.order_machine.specs.Machine.{Machine};
 ghost use Rattle.events.specs.declared.event.Event.TheVariants.{Survey, Appoint, Activate};
 ghost use Rattle.world.specs.Kept.{Kept};
 ghost use Rattle.world.specs.Handling.{IsReady, Handles, refusal_of, rule_surveyed, rule_active, is_past_limit};
+ghost use Rattle.world.specs.Steps.{appointment_alone};
 ghost use Rattle.world.specs.World.{StandsFor, IsAppointed};
 
 use crate::effects::EventEffects;
@@ -12,7 +13,7 @@ use crate::error::WorldError;
 use crate::starting::start_epoch;
 use crate::steps::take_survey;
 use crate::world::World;
-use config_rule::RuleError;
+use config_rule::{Appointment, RuleError};
 use disk_model::CrashDisk;
 use events::Replicas;
 use order_machine::{Observation, Observations};
@@ -99,7 +100,7 @@ impl World {
             unreachable!();
         };
         match rule.appoint(epoch, primary, members.as_slice(), self.replica.is_some()) {
-            Ok(_) => self.start(disk, number, epoch, primary),
+            Ok(appointment) => self.start(disk, number, appointment),
             Err(RuleError::Broken(broken)) => {
                 self.answered(number, Observation::Refused(broken.part))
             }
@@ -117,19 +118,18 @@ impl World {
         }
     }
 
-    // The replica, which is open, was appointed as the primary of the epoch, which it starts where the limit leaves room.
+    // The replica, which is open, was appointed as the primary of an epoch, which it starts where the limit leaves room.
     fn start<M: CrashDisk>(
         &mut self,
         disk: &mut M,
         number: u64,
-        epoch: Epoch,
-        primary: ReplicaId,
+        appointment: Appointment,
     ) -> Result<Observations, WorldError>
-        requires first { primary ≡ 0 }
+        requires alone { appointment ≡ appointment_alone appointment.epoch }
         requires rising { self.old.last < number }
         requires within { number ≤ 1000000 }
-        requires appointed { (before : Kept) × (m : Machine) × IsAppointed before self.old epoch × StandsFor before (M.images disk.old) m }
-        ensures { (before : Kept) → IsAppointed before self.old epoch → Handles M.images M.faults M.marks before self.new disk.old disk.new number (Appoint epoch 0 (0 ∷ [])) result }
+        requires appointed { (before : Kept) × (m : Machine) × IsAppointed before self.old appointment.epoch × StandsFor before (M.images disk.old) m }
+        ensures { (before : Kept) → IsAppointed before self.old appointment.epoch → Handles M.images M.faults M.marks before self.new disk.old disk.new number (Appoint appointment.epoch 0 (0 ∷ [])) result }
     {
         if self.is_past_limit() {
             return Err(WorldError::Limit {
@@ -137,11 +137,13 @@ impl World {
                 lines: Observations::new(self.alloc),
             });
         }
+        let epoch = appointment.epoch;
+        let primary = appointment.primary;
         let mut effects = EventEffects::new(self.alloc, self.order);
         let Some(open) = &mut self.replica else {
             unreachable!();
         };
-        match start_epoch(primary, open, disk, epoch, &mut effects) {
+        match start_epoch(primary, open, disk, appointment, &mut effects) {
             Ok(()) => {
                 self.note_active(epoch, effects.active);
                 Ok(self.finish(number, effects))

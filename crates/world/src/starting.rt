@@ -8,39 +8,64 @@ ghost use Rattle.order_machine.specs.Legal.{IsWhole, moved};
 ghost use Rattle.order_machine.specs.Machine.{empty_machine};
 ghost use Rattle.order_machine.specs.declared.observation.Observation.TheVariants as says;
 ghost use Rattle.replica.specs.declared.error.StepError.TheVariants as errors;
-ghost use Rattle.replica.specs.declared.step.StepEvent.TheVariants as steps;
+ghost use Rattle.replica_model.specs.declared.step.StepEvent.TheVariants as steps;
 ghost use Rattle.replica.specs.Open.{AreSame};
 ghost use Rattle.replica.specs.Step.{MayStep, stepped};
 ghost use Rattle.events.specs.declared.event.Event.TheVariants.{Boot};
 ghost use Rattle.world.specs.Fleet.{faults_in, RoseBy, TellsZero};
 ghost use Rattle.order_machine.specs.Transitions.{first_epoch};
 ghost use Rattle.world.specs.Kept.{no_events};
+ghost use Rattle.world.specs.Steps as spec;
 ghost use Rattle.world.specs.Steps.{no_effects, effects_started, finished, log_behind, log_once, HoldsSome};
 ghost use Rattle.world.specs.World.{AsReplica, IsOpen, IsRuled};
 
 use crate::effects::EventEffects;
 use crate::opening::open_replica;
 use crate::steps::{take_step, tell_orders, tell_rise};
-use config_rule::Rule;
+use config_rule::{Appointment, Rule};
 use disk_model::CrashDisk;
 use order_machine::{Observation, Observations};
 use rc_base::{Epoch, Members, MembersError, NoMemory, ReplicaId};
-use replica::{Replica, StepError, StepEvent};
+use replica::{Replica, StepError};
+use replica_model::StepEvent;
 use std::alloc::Global;
 
 // The epoch that a boot starts.
 pub(crate) const FIRST_EPOCH: Epoch = Epoch { loss: 0, number: 1 };
+
+// The configuration of this one member.
+fn members_alone(alloc: Global, member: ReplicaId) -> Result<Members, NoMemory>
+    ensures { IfOk result (λ members. members ≡ member ∷ []) }
+{
+    match Members::from_slice(alloc, &[member]) {
+        Ok(members) => Ok(members),
+        Err(MembersError::NoMemory) => Err(NoMemory),
+        Err(MembersError::Twice { .. }) => unreachable!(),
+    }
+}
 
 // The rule of reconfiguration of a world that is booted with this one member.
 pub(crate) fn first_rule(alloc: Global, member: ReplicaId) -> Result<Rule, NoMemory>
     requires first { member ≡ 0 }
     ensures { IfOk result (λ rule. rule ≡ after_boot (0 ∷ [])) }
 {
-    match Members::from_slice(alloc, &[member]) {
-        Ok(members) => Rule::new(alloc, &members),
-        Err(MembersError::NoMemory) => Err(NoMemory),
-        Err(MembersError::Twice { .. }) => unreachable!(),
-    }
+    let members = members_alone(alloc, member)?;
+    Rule::new(alloc, &members)
+}
+
+// The appointment of a boot with this one member, which counts as activated.
+fn first_appointment(alloc: Global, member: ReplicaId) -> Result<Appointment, NoMemory>
+    requires first { member ≡ 0 }
+    ensures { IfOk result (λ appointment. appointment ≡ spec.first_appointment) }
+{
+    let pc = members_alone(alloc, member)?;
+    let cc = members_alone(alloc, member)?;
+    Ok(Appointment {
+        epoch: FIRST_EPOCH,
+        primary: member,
+        pc,
+        cc,
+    })
 }
 
 // Boots replica 0 over a disk without a log: opens it and starts the first epoch, and tells so. These are all lines of the
@@ -62,10 +87,11 @@ pub(crate) fn boot_replica<M: CrashDisk>(
     ensures later { M.faults disk.old ≤ M.faults disk.new }
     ensures marks { M.marks disk.new ≡ M.marks disk.old }
 {
+    let first = first_appointment(alloc, replica)?;
     let Some(mut opened) = open_replica(alloc, replica, disk, &mut effects.lines)? else {
         return Ok(None);
     };
-    match start_epoch(replica, &mut opened, disk, FIRST_EPOCH, effects) {
+    match start_epoch(replica, &mut opened, disk, first, effects) {
         Ok(()) => Ok(Some(opened)),
         Err(StepError::Disk) => {
             effects.lines.push(Observation::Fault(replica))?;
@@ -75,55 +101,55 @@ pub(crate) fn boot_replica<M: CrashDisk>(
     }
 }
 
-// The replica starts an epoch, answers, and logs a Barrier.
+// The replica starts the epoch of an appointment, answers, and logs a Barrier.
 pub(crate) fn start_epoch<M: CrashDisk>(
     replica: ReplicaId,
     opened: &mut Replica,
     disk: &mut M,
-    epoch: Epoch,
+    appointment: Appointment,
     effects: &mut EventEffects,
 ) -> Result<(), StepError>
     requires first { replica ≡ 0 }
     requires stands { (log : Log) × IsOpen opened.old log (M.images disk.old) }
-    requires may { MayStep opened.old (steps.Start epoch) }
+    requires may { MayStep opened.old (steps.Appoint appointment) }
     requires room { opened.old.last.0 + 4 < 2 ^ 48 }
     requires counted { opened.old.front.begins + 1 < 2 ^ 64 }
-    ensures kept { OnOk result (AreSame opened.new (record (finished opened.old (steps.Start epoch)) { log = opened.new.log })) }
-    ensures stands { OnOk result ((log : Log) → IsOpen opened.old log (M.images disk.old) → IsOpen opened.new (log_behind opened.old (steps.Start epoch) log) (M.images disk.new)) }
-    ensures told { OnOk result (effects.new ≡ effects_started effects.old epoch opened.old) }
-    ensures cut { IsErrOf result errors.Disk → ((effects.new ≡ effects.old) × ((log : Log) → IsOpen opened.old log (M.images disk.old) → StandForOneOf log (log_once opened.old (steps.Start epoch) log) (M.images disk.new))) ⊎ (effects.new ≡ effects_started effects.old epoch opened.old) }
-    ensures stop { (log : Log) → IsOpen opened.old log (M.images disk.old) → HoldsSome opened.old (steps.Start epoch) log (M.images disk.new) }
+    ensures kept { OnOk result (AreSame opened.new (record (finished opened.old (steps.Appoint appointment)) { log = opened.new.log })) }
+    ensures stands { OnOk result ((log : Log) → IsOpen opened.old log (M.images disk.old) → IsOpen opened.new (log_behind opened.old (steps.Appoint appointment) log) (M.images disk.new)) }
+    ensures told { OnOk result (effects.new ≡ effects_started effects.old appointment opened.old) }
+    ensures cut { IsErrOf result errors.Disk → ((effects.new ≡ effects.old) × ((log : Log) → IsOpen opened.old log (M.images disk.old) → StandForOneOf log (log_once opened.old (steps.Appoint appointment) log) (M.images disk.new))) ⊎ (effects.new ≡ effects_started effects.old appointment opened.old) }
+    ensures stop { (log : Log) → IsOpen opened.old log (M.images disk.old) → HoldsSome opened.old (steps.Appoint appointment) log (M.images disk.new) }
     ensures cause { Counted (M.faults disk.old) (M.faults disk.new) (IsErrOf result errors.Disk) }
     ensures marks { M.marks disk.new ≡ M.marks disk.old }
 {
-    take_start(replica, opened, disk, epoch, effects)?;
+    take_start(replica, opened, disk, appointment, effects)?;
     take_step(replica, opened, disk, &StepEvent::Barrier, effects)?;
     Ok(())
 }
 
-// The step that starts an epoch, its lines and its answer.
+// The step that starts the epoch of an appointment, its lines and its answer.
 fn take_start<M: CrashDisk>(
     replica: ReplicaId,
     opened: &mut Replica,
     disk: &mut M,
-    epoch: Epoch,
+    appointment: Appointment,
     effects: &mut EventEffects,
 ) -> Result<(), StepError>
     requires first { replica ≡ 0 }
     requires stands { (log : Log) × IsOpen opened.old log (M.images disk.old) }
-    requires may { MayStep opened.old (steps.Start epoch) }
+    requires may { MayStep opened.old (steps.Appoint appointment) }
     requires room { opened.old.last.0 + 4 < 2 ^ 48 }
     requires counted { opened.old.front.begins + 1 < 2 ^ 64 }
-    ensures kept { OnOk result (AreSame opened.new (record (stepped opened.old (steps.Start epoch)) { log = opened.new.log })) }
-    ensures stands { OnOk result ((log : Log) → IsOpen opened.old log (M.images disk.old) → IsOpen opened.new (log_once opened.old (steps.Start epoch) log) (M.images disk.new)) }
-    ensures told { OnOk result (effects.new ≡ effects_started effects.old epoch opened.old) }
-    ensures stop { (log : Log) → IsOpen opened.old log (M.images disk.old) → StandForOneOf log (log_once opened.old (steps.Start epoch) log) (M.images disk.new) }
+    ensures kept { OnOk result (AreSame opened.new (record (stepped opened.old (steps.Appoint appointment)) { log = opened.new.log })) }
+    ensures stands { OnOk result ((log : Log) → IsOpen opened.old log (M.images disk.old) → IsOpen opened.new (log_once opened.old (steps.Appoint appointment) log) (M.images disk.new)) }
+    ensures told { OnOk result (effects.new ≡ effects_started effects.old appointment opened.old) }
+    ensures stop { (log : Log) → IsOpen opened.old log (M.images disk.old) → StandForOneOf log (log_once opened.old (steps.Appoint appointment) log) (M.images disk.new) }
     ensures untold { IsErrOf result errors.Disk → effects.new ≡ effects.old }
     ensures cause { Counted (M.faults disk.old) (M.faults disk.new) (IsErrOf result errors.Disk) }
     ensures marks { M.marks disk.new ≡ M.marks disk.old }
 {
     let shown = opened.shown();
-    let outcome = opened.step(disk, &StepEvent::Start { epoch })?;
+    let outcome = opened.step(disk, &StepEvent::Appoint(appointment))?;
     let known = effects.order.saturating_sub(shown) as usize;
     effects.note(outcome.shown, outcome.active);
     tell_orders(outcome.commits, known, &mut effects.lines)?;

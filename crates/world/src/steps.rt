@@ -5,7 +5,7 @@ ghost use Rattle.log_store.specs.declared.kept.Kept.{Kept as Log};
 ghost use Rattle.log_store.specs.Durable.{StandForOneOf};
 ghost use Rattle.order_machine.specs.declared.observation.Observation.{Observation};
 ghost use Rattle.replica.specs.declared.error.StepError.TheVariants as errors;
-ghost use Rattle.replica.specs.declared.step.StepEvent.TheVariants as steps;
+ghost use Rattle.replica_model.specs.declared.step.StepEvent.TheVariants as steps;
 ghost use Rattle.replica.specs.Open.{Open, AreSame};
 ghost use Rattle.replica.specs.Step as step_spec;
 ghost use Rattle.replica.specs.Step.{MayStep, block, outcome, stepped};
@@ -18,7 +18,8 @@ use disk_model::CrashDisk;
 use events::{Answer, Call};
 use order_machine::{Observation, Observations, line_of_answer};
 use rc_base::{Epoch, Lsn, NoMemory, ReplicaId};
-use replica::{Commits, Outcome, Replica, Role, StepError, StepEvent, TxnIds};
+use replica::{Replica, StepError};
+use replica_model::{Commits, Outcome, Role, StepEvent, TxnIds};
 
 // Whether the role is that of an active primary.
 pub(crate) fn is_active(role: Role) -> bool

@@ -2,7 +2,7 @@ ghost use Rattle.std.specs.Prelude.{◌≡◌, ℕ, ◌<◌, ◌≤◌, ◌∷�
 ghost use Rattle.order_machine.specs.declared.observation.Observation.{Observation};
 ghost use Rattle.order_machine.specs.Machine.{Machine};
 ghost use Rattle.order_machine.specs.Transitions.{event_primary, is_actor};
-ghost use Rattle.replica.specs.Step.{CallFits};
+ghost use Rattle.replica_model.specs.Steps.{CallFits};
 ghost use Rattle.events.specs.declared.event.Event.TheVariants.{Boot, Client, Arm, Crash, Reboot, Inspect};
 ghost use Rattle.world.specs.Fleet.{images_of, faults_of, marks_of, marks_after, fault_lines, RoseBy};
 ghost use Rattle.world.specs.Kept.{no_events};

@@ -26,9 +26,9 @@ use Rattle.order_machine.specs.Machine.{Machine, order_of}
 use Rattle.events.specs.Answers.{plain, live_reply}
 use Rattle.events.specs.Calls.{txn_named}
 use Rattle.order_machine.specs.Legal.{IsWhole, moved}
-use Rattle.replica.specs.declared.role.Role.{Role}
-use Rattle.replica.specs.declared.role.Role.TheVariants.{Other, Primary}
-use Rattle.replica.specs.declared.step.StepEvent.TheVariants as steps
+use Rattle.replica_model.specs.declared.role.Role.{Role}
+use Rattle.replica_model.specs.declared.role.Role.TheVariants.{Other, Primary}
+use Rattle.replica_model.specs.declared.step.StepEvent.TheVariants as steps
 use Rattle.replica.specs.Open.{Open, AgreesWith, commits_to}
 use Rattle.log_records.specs.declared.record.Record.{Record}
 use Rattle.log_records.specs.declared.record.Record.TheVariants as recs
@@ -40,7 +40,9 @@ use Rattle.std.specs.Ordering.{nat_cmp}
 use Rattle.std.proofs.lemmas.Bool.Decides.{nat_tests}
 use Rattle.txn_front.proofs.Fronts.{told_ended, called_ended}
 use Rattle.log_store.specs.Growth.{after}
-use Rattle.replica.specs.Step.{placed, logged_op, CallFits, reply, is_active, logged, logged_by, logged_call, called, answered, noted, behind, going_in, committed_by, lengthened, epoch_in, outcome}
+use Rattle.replica_model.specs.Records.{placed, logged_op, logged_call}
+use Rattle.replica_model.specs.Steps.{CallFits, noted}
+use Rattle.replica.specs.Step.{reply, is_active, logged, logged_by, called, answered, behind, going_in, committed_by, lengthened, epoch_in, outcome}
 use Rattle.txn_front.specs.Front.{Fronted, Going, going_of, told, AreAlike}
 use Rattle.txn_front.specs.Front as front
 use Rattle.world.specs.Disks.{as_commit}

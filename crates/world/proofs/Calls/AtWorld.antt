@@ -8,11 +8,12 @@ use Rattle.order_machine.specs.declared.observation.Observation.{Observation}
 use Rattle.order_machine.specs.declared.observation.Observation.TheVariants as says
 use Rattle.order_machine.specs.Machine.{Machine}
 use Rattle.order_machine.specs.Legal.{IsWhole, moved}
-use Rattle.replica.specs.declared.role.Role.{Role}
-use Rattle.replica.specs.declared.role.Role.TheVariants.{Other, Primary}
-use Rattle.replica.specs.declared.step.StepEvent.TheVariants as steps
+use Rattle.replica_model.specs.declared.role.Role.{Role}
+use Rattle.replica_model.specs.declared.role.Role.TheVariants.{Other, Primary}
+use Rattle.replica_model.specs.declared.step.StepEvent.TheVariants as steps
 use Rattle.replica.specs.Open.{Open}
-use Rattle.replica.specs.Step.{CallFits, outcome}
+use Rattle.replica_model.specs.Steps.{CallFits}
+use Rattle.replica.specs.Step.{outcome}
 use Rattle.world.specs.declared.error.WorldError.{WorldError}
 use Rattle.world.specs.declared.error.WorldError.TheVariants as errors
 use Rattle.world.specs.Kept.{Kept, has_booted}

@@ -23,9 +23,9 @@ use Rattle.events.specs.Locking.{locks_at, against}
 use Rattle.events.specs.Answers.{plain, reply_to, live_reply, locked_or}
 use Rattle.events.specs.Calls.{txn_named}
 use Rattle.order_machine.specs.Legal.{moved}
-use Rattle.replica.specs.declared.role.Role.{Role}
-use Rattle.replica.specs.declared.role.Role.TheVariants.{Other, Primary}
-use Rattle.replica.specs.declared.step.StepEvent.TheVariants as steps
+use Rattle.replica_model.specs.declared.role.Role.{Role}
+use Rattle.replica_model.specs.declared.role.Role.TheVariants.{Other, Primary}
+use Rattle.replica_model.specs.declared.step.StepEvent.TheVariants as steps
 use Rattle.replica.specs.Open.{Open, AgreesWith, shown_in}
 use Rattle.replica.specs.Step.{MayStep, reply, is_active, logged_by, lengthened, outcome, stepped}
 use Rattle.txn_front.specs.Front.{Fronted, Going, going_of, told, txn_at, AreAlike}

@@ -27,14 +27,16 @@ use Rattle.order_machine.specs.Clients.{answer}
 use Rattle.events.specs.Calls.{txn_named}
 use Rattle.order_machine.specs.Transitions.{asking, going_at, logs, is_ok, ends_logged}
 use Rattle.order_machine.specs.Legal.{IsWhole, moved}
-use Rattle.replica.specs.declared.role.Role.{Role}
-use Rattle.replica.specs.declared.role.Role.TheVariants.{Other, Primary}
-use Rattle.replica.specs.declared.step.StepEvent.{StepEvent}
-use Rattle.replica.specs.declared.step.StepEvent.TheVariants as steps
+use Rattle.replica_model.specs.declared.role.Role.{Role}
+use Rattle.replica_model.specs.declared.role.Role.TheVariants.{Other, Primary}
+use Rattle.replica_model.specs.declared.step.StepEvent.{StepEvent}
+use Rattle.replica_model.specs.declared.step.StepEvent.TheVariants as steps
 use Rattle.replica.specs.Open.{Open, AgreesWith}
 use Rattle.txn_table.specs.Whole.{stable_in}
 use Rattle.log_records.specs.declared.record.Record.TheVariants as recs
-use Rattle.replica.specs.Step.{placed, logged_op, logged_abort, CallFits, MayStep, reply, is_active, logged, logged_by, called, answered, committed_by, outcome, stepped, block}
+use Rattle.replica_model.specs.Records.{placed, logged_op, logged_abort}
+use Rattle.replica_model.specs.Steps.{CallFits}
+use Rattle.replica.specs.Step.{MayStep, reply, is_active, logged, logged_by, called, answered, committed_by, outcome, stepped, block}
 use Rattle.txn_front.specs.Front.{Fronted, Going, going_of, told}
 use Rattle.txn_front.specs.Front as front
 use Rattle.world.specs.Disks.{as_commit}

@@ -19,7 +19,7 @@ use Rattle.events.specs.Calls.{txn_named}
 use Rattle.events.specs.Answers.{live_reply}
 use Rattle.txn_front.specs.Index as index
 use Rattle.txn_front.specs.Front.{Fronted, Going, txn_at, going_of, AreAlike, IsOver, told, with_going, begun, called, operated, ended, logged}
-use Rattle.replica.specs.Step.{noted}
+use Rattle.replica_model.specs.Steps.{noted}
 use Rattle.world.proofs.Calls.Abort.{Ends}
 use Rattle.world.proofs.Calls.Collection.{grants_then}
 use Rattle.world.proofs.Calls.Begin.{Begins, new_going}

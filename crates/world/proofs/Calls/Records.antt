@@ -19,7 +19,7 @@ use Rattle.order_machine.proofs.Machines.{known_before}
 use Rattle.lock_laws.proofs.ProtectedCalls.{Replays-from_protected}
 use Rattle.key_locks.specs.Grants.{released}
 use Rattle.replica.specs.Open.{Open}
-use Rattle.replica.specs.declared.step.StepEvent.TheVariants as steps
+use Rattle.replica_model.specs.declared.step.StepEvent.TheVariants as steps
 use Rattle.replica.specs.Step.{is_active, committed_by}
 use Rattle.txn_front.specs.Front.{Fronted, Going, going_of}
 use Rattle.disk_model.specs.Disk.{Areas}

@@ -12,8 +12,8 @@ use Rattle.events.specs.declared.call.Call.{Call}
 use Rattle.events.specs.declared.call.Call.TheVariants.{Commit}
 use Rattle.order_machine.specs.declared.observation.Observation.TheVariants as says
 use Rattle.events.specs.declared.answer.Reply.{Reply}
-use Rattle.replica.specs.declared.step.Outcome.{Outcome}
-use Rattle.replica.specs.declared.step.StepEvent.TheVariants as steps
+use Rattle.replica_model.specs.declared.step.Outcome.{Outcome}
+use Rattle.replica_model.specs.declared.step.StepEvent.TheVariants as steps
 use Rattle.replica.specs.Open.{Open}
 use Rattle.replica.specs.Step.{reply, is_active, quiet, outcome, logged_by, called, answered, going_in, committed_by, shown_commits, lengthened}
 use Rattle.txn_front.specs.Front.{Going, going_of, ended}

@@ -16,9 +16,9 @@ use Rattle.events.specs.declared.call.Call.TheVariants.{Begin, Make, OnKey, Comm
 use Rattle.order_machine.specs.declared.observation.Observation.{Observation}
 use Rattle.txn_front.specs.Front.{Fronted, Going, going_of, nothing, AreAlike}
 use Rattle.txn_front.proofs.Fronts.{AreAlike-trans}
-use Rattle.replica.specs.declared.role.Role.TheVariants.{Other}
-use Rattle.replica.specs.declared.step.StepEvent.{StepEvent}
-use Rattle.replica.specs.declared.step.StepEvent.TheVariants as steps
+use Rattle.replica_model.specs.declared.role.Role.TheVariants.{Other}
+use Rattle.replica_model.specs.declared.step.StepEvent.{StepEvent}
+use Rattle.replica_model.specs.declared.step.StepEvent.TheVariants as steps
 use Rattle.replica.specs.Open.{Open, AreSame, AgreesWith}
 use Rattle.replica.specs.Step.{MayStep, stepped, block, answered, logged_by, lengthened, is_active, outcome}
 use Rattle.world.specs.declared.effects.EventEffects.{EventEffects}
@@ -53,16 +53,20 @@ either_id false x y r p q = q
 pub stepped_id : (r : Open) (event : StepEvent) → (stepped r event).id ≡ r.id
 stepped_id r (steps.Client call) = either_id (is_active r.role) (answered (length (logged_by r call)) call r) r r (answered_id r (length (logged_by r call)) call) refl
 stepped_id r (steps.Survey epoch) = either_id (epoch_lt epoch r.fence) r (record r { fence = later r.fence epoch; role = Other; front = nothing no_epoch }) r refl refl
-stepped_id r (steps.Start epoch) = refl
+stepped_id r (steps.Appoint a) = refl
+stepped_id r (steps.Activate epoch) = refl
 stepped_id r steps.Barrier = refl
+stepped_id r steps.Inspect = refl
 
 -- ---- a Barrier follows a step of a primary that is active then
 
 pub due_active : (r : Open) (event : StepEvent) → is_due r event ≡ true → is_active (stepped r event).role ≡ true
 due_active r (steps.Client call) due = due_call r call due
 due_active r (steps.Survey epoch) due = absurd (false≢true due)
-due_active r (steps.Start epoch) due = refl
+due_active r (steps.Appoint a) due = refl
+due_active r (steps.Activate epoch) due = absurd (false≢true due)
 due_active r steps.Barrier due = absurd (false≢true due)
+due_active r steps.Inspect due = absurd (false≢true due)
 
 -- ---- the second step
 
@@ -107,8 +111,10 @@ barrier_effects d o low =
 pub due_shows : (r : Open) (event : StepEvent) → is_due r event ≡ true → (outcome r event).shown ≡ (stepped r event).shown
 due_shows r (steps.Client call) due = call_shows r call due
 due_shows r (steps.Survey epoch) due = absurd (false≢true due)
-due_shows r (steps.Start epoch) due = refl
+due_shows r (steps.Appoint a) due = refl
+due_shows r (steps.Activate epoch) due = absurd (false≢true due)
 due_shows r steps.Barrier due = absurd (false≢true due)
+due_shows r steps.Inspect due = absurd (false≢true due)
 
 -- what both steps do, where the second is a Barrier
 pub effects_twice : (r o : Open) (event : StepEvent) (old once : EventEffects) → AreSame o (record (stepped r event) { log = o.log }) → once ≡ effects_after old r event → (outcome r event).shown ≡ (stepped r event).shown → effects_after once o steps.Barrier ≡ effects_after old r event

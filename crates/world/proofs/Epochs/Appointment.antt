@@ -67,7 +67,12 @@ pub below : (last : ℕ) (r : Open) (images : Areas → Type 0) (m : Machine) (e
 below last r images m e h = latest_below (course_of h) e h.rests.rests.ruled (above_course last r images m e h)
 
 pub may_start : (last : ℕ) (r : Open) (images : Areas → Type 0) (m : Machine) (e : Epoch) (h : Appoints last r images m e) → MayStep r (start e)
-may_start last r images m e h = by h.rests.sound.logged
+may_start last r images m e h = record {
+  above = by h.rests.sound.logged;
+  own = sym h.rests.is_open.first;
+  alone = ap (λ n. n ∷ []) (sym h.rests.is_open.first);
+  alone_before = ap (λ n. n ∷ []) (sym h.rests.is_open.first);
+}
   where
     by : IsLogged (course_of h) h.rests.log → epoch_lt r.epoch e ≡ true
     by (inl there) = subst (λ (f : Epoch). epoch_lt f e ≡ true) h.rests.is_open.agrees.epoch (below_all e (last_epoch h.rests.log.records) ((course_of h).first ∷ (course_of h).later) (above_course last r images m e h) there)

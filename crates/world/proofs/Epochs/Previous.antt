@@ -13,8 +13,8 @@ use Rattle.order_machine.specs.Machine.{Machine, Appointment, Txn}
 use Rattle.order_machine.specs.Transitions.{HoldsBehind, dropping}
 use Rattle.rc_base.specs.declared.ids.TxnId.{TxnId}
 use Rattle.txn_front.specs.Front.{Fronted}
-use Rattle.replica.specs.declared.role.Role.{Role}
-use Rattle.replica.specs.declared.role.Role.TheVariants.{Other, Primary}
+use Rattle.replica_model.specs.declared.role.Role.{Role}
+use Rattle.replica_model.specs.declared.role.Role.TheVariants.{Other, Primary}
 use Rattle.replica.specs.Open.{Open}
 use Rattle.world.specs.Course.{IsOurs, IsCourse, ArePast, IsLogged, is_appointed}
 use Rattle.world.specs.Running.{Runs}

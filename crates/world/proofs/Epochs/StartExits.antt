@@ -6,6 +6,7 @@ use Rattle.world.proofs.Exits.OneLine.{no_memory}
 use Rattle.rc_base.specs.Counts.{Rose}
 use Rattle.rc_base.specs.Members.{AreMembers}
 use Rattle.rc_base.specs.declared.ids.Epoch.{Epoch}
+use Rattle.config_rule.specs.declared.appointments.Appointment.{Appointment}
 use Rattle.config_rule.specs.Rule.{Known, is_above, are_members, has_quorum, has_answered_last, tells_most, broken_appointment, after_appointment, after_active}
 use Rattle.config_rule.proofs.Rising.{same_members}
 use Rattle.disk_model.specs.Disk.{Areas, Marks}
@@ -26,7 +27,7 @@ use Rattle.world.specs.Kept.{Kept, has_booted}
 use Rattle.world.specs.declared.effects.EventEffects.{EventEffects}
 use Rattle.world.specs.Handling.{Handles, rule_active}
 use Rattle.world.specs.Limits.{IsServable}
-use Rattle.world.specs.Steps.{no_effects, effects_started, finished, log_once, log_behind, HoldsSome}
+use Rattle.world.specs.Steps.{appointment_alone, no_effects, effects_started, finished, log_once, log_behind, HoldsSome}
 use Rattle.world.specs.World.{StandsFor, AsReplica, IsOpen, IsAppointed, Serves, StillHolds}
 use Rattle.world.proofs.Epochs.Appointment.{all_lines}
 use Rattle.world.proofs.Exits.FaultCounts.{rose_none, rose_one, fault_first}
@@ -34,6 +35,8 @@ use Rattle.world.proofs.Exits.Limits.{on_ok}
 use Rattle.world.proofs.Exits.Common.{last_of_kept, marks_same, marks_same_after}
 use Rattle.world.proofs.States.Later.{ruled_of, replica_of, booted_stands, up_role}
 use Rattle.world.proofs.Epochs.Rule.{appointment_same}
+use Rattle.world.proofs.Epochs.Previous.{alone_replica}
+use Rattle.world.proofs.States.Alone.{alone_members}
 use Rattle.world.proofs.Epochs.StartLogs.{start}
 use Rattle.world.proofs.Epochs.StartWorld.{MayAppoint, six_hold, faultless_all, start_does, start_fails_behind, start_fails_first, start_short, start_room}
 use Rattle.events.specs.declared.answer.Answer.TheVariants as answers
@@ -71,7 +74,7 @@ noted_active before old e a = ap (λ (k : Kept). option_map (λ known. after_act
 
 -- what the start of the epoch does
 abbrev pub all_effects : ℕ → Open → Epoch → EventEffects
-all_effects order r e = effects_started (no_effects order) e r
+all_effects order r e = effects_started (no_effects order) (appointment_alone e) r
 
 -- all went well
 pub ok_serves : (before old new : Kept) (images now : Areas → Type 0) (number : ℕ) (r x : Open) (e : Epoch) (effects : EventEffects) → IsAppointed before old e → old.replica ≡ Some r → old.last < number → AreSame x (record (finished r (start e)) { log = x.log }) →
@@ -89,7 +92,7 @@ ok_serves before old new images now number r x e effects a is rising kept stands
 
 -- what was done before a fault, where this was done before: nothing more, or all
 abbrev pub IsCutAt : EventEffects → Open → Epoch → EventEffects → (Areas → Type 0) → (Areas → Type 0) → Type 0
-IsCutAt old r e effects images now = ((effects ≡ old) × ((log : Log) → IsOpen r log images → StandForOneOf log (log_once r (start e) log) now)) ⊎ (effects ≡ effects_started old e r)
+IsCutAt old r e effects images now = ((effects ≡ old) × ((log : Log) → IsOpen r log images → StandForOneOf log (log_once r (start e) log) now)) ⊎ (effects ≡ effects_started old (appointment_alone e) r)
 
 -- the disk failed
 pub cut_serves : (before old new : Kept) (images now : Areas → Type 0) (number : ℕ) (r : Open) (e : Epoch) (effects : EventEffects) → IsAppointed before old e → old.replica ≡ Some r → old.last < number →
@@ -212,6 +215,24 @@ appointed_of before old e known new primary given members up a lawful same now n
       lawful = sym (asked_same before known e primary given up a) ∙ lawful;
       now_is = now_is ∙ ap (λ (w : Known). record before { rule = Some w }) now_so;
     }
+
+-- each configuration that a rule knows of is of replica 0 alone
+pub alone_in : (k : Kept) (images : Areas → Type 0) (m : Machine) (known : Known) → k.rule ≡ Some known → StandsFor k images m → known.current ≡ 0 ∷ []
+alone_in k images m known rule s =
+    let booted : has_booted k ≡ true = ap is_some rule in
+    let ruled = ruled_of k images m booted s in
+    let same : ruled.known ≡ known = same_Some ruled.known known (sym ruled.rule ∙ rule) in
+    ap (λ (w : Known). w.current) (sym same) ∙ (ruled.current ∙ (alone_replica k.replica k.last images m (replica_of k images m booted s)).0)
+
+-- so a lawful appointment is that of replica 0, alone, where it was alone before
+pub alone_before : (k : Kept) (images : Areas → Type 0) (known : Known) (a : Appointment) (primary : ℕ) (given : List ℕ) → k.rule ≡ Some known → primary ≡ 0 → given ≡ 0 ∷ [] →
+    a.primary ≡ primary → a.pc ≡ known.current → AreMembers given a.cc → (m : Machine) → StandsFor k images m → a ≡ appointment_alone a.epoch
+alone_before k images known a primary given rule first alone own previous members m s =
+    let pc : a.pc ≡ 0 ∷ [] = previous ∙ alone_in k images m known rule s in
+    let cc : a.cc ≡ 0 ∷ [] = alone_members 0 a.cc (subst (λ xs. AreMembers xs a.cc) alone members) in
+    ap (λ (p : ℕ). record a { primary = p }) (own ∙ first)
+    ∙ (ap (λ (xs : List ℕ). record a { primary = 0; pc = xs }) pc
+    ∙ ap (λ (xs : List ℕ). record a { primary = 0; pc = 0 ∷ []; cc = xs }) cc)
 
 -- the machine refuses what the rule finds broken
 pub refuses_part : (k : Kept) (images : Areas → Type 0) (e : Epoch) (known : Known) (primary : ℕ) (given : List ℕ) (up : Bool) (part : ℕ) → IsAsked k known primary given up → broken_appointment known e primary given up ≡ Some part → (m : Machine) → StandsFor k images m → refusal m (Appoint e 0 (0 ∷ [])) ≡ Some (answers.Refused part)

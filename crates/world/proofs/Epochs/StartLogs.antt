@@ -7,18 +7,18 @@ use Rattle.log_records.specs.declared.record.Record.TheVariants.{EpochStart}
 use Rattle.txn_table.specs.Log.{Items, commits_in, last_epoch}
 use Rattle.log_store.specs.declared.kept.Kept.{Kept as Log}
 use Rattle.txn_table.specs.Epochs.{later}
-use Rattle.replica.specs.declared.step.StepEvent.{StepEvent}
-use Rattle.replica.specs.declared.step.StepEvent.TheVariants as steps
+use Rattle.replica_model.specs.declared.step.StepEvent.{StepEvent}
+use Rattle.replica_model.specs.declared.step.StepEvent.TheVariants as steps
 use Rattle.replica.specs.Open.{Open, AgreesWith, shown_in, commits_to}
 use Rattle.txn_table.specs.Whole.{stable_in}
 use Rattle.replica.specs.Step.{MayStep, stepped, started}
 use Rattle.replica.proofs.Lengthened.{commits_after, steps_to}
 use Rattle.world.specs.Course.{IsFence}
 use Rattle.world.specs.Standing.{Course}
-use Rattle.world.specs.Steps.{log_once, log_twice}
+use Rattle.world.specs.Steps.{log_once, log_twice, appointment_alone}
 
 abbrev pub start : Epoch → StepEvent
-start e = steps.Start e
+start e = steps.Appoint (appointment_alone e)
 
 -- the log agrees with the replica behind each of the two steps
 pub once_agrees : (r : Open) (log : Log) (e : Epoch) → AgreesWith r log → MayStep r (start e) → AgreesWith (started e r) (log_once r (start e) log)

@@ -27,9 +27,9 @@ use Rattle.order_machine.specs.Machine.{Machine, replica, order_of, without_role
 use Rattle.order_machine.specs.Transitions.{refusal, down_of, is_above_all, with_survey}
 use Rattle.order_machine.specs.Legal.{IsWhole, moved}
 use Rattle.txn_front.specs.Front.{nothing}
-use Rattle.replica.specs.declared.role.Role.{Role}
-use Rattle.replica.specs.declared.role.Role.TheVariants.{Other}
-use Rattle.replica.specs.declared.step.StepEvent.TheVariants as steps
+use Rattle.replica_model.specs.declared.role.Role.{Role}
+use Rattle.replica_model.specs.declared.role.Role.TheVariants.{Other}
+use Rattle.replica_model.specs.declared.step.StepEvent.TheVariants as steps
 use Rattle.replica.specs.Open.{Open}
 use Rattle.replica.specs.Step as step_spec
 use Rattle.replica.specs.Step.{quiet, outcome, survey_answer}

@@ -17,8 +17,8 @@ use Rattle.order_machine.specs.Machine as machine
 use Rattle.order_machine.specs.Machine.{Machine, Appointment, Txn, replica, put_replica, order_of, without_role}
 use Rattle.order_machine.specs.Transitions.{HoldsBehind, IsProgress, refusal, at_start, with_survey, is_told}
 use Rattle.order_machine.specs.Legal.{IsWhole, moved}
-use Rattle.replica.specs.declared.role.Role.{Role}
-use Rattle.replica.specs.declared.role.Role.TheVariants.{Other, Primary}
+use Rattle.replica_model.specs.declared.role.Role.{Role}
+use Rattle.replica_model.specs.declared.role.Role.TheVariants.{Other, Primary}
 use Rattle.replica.specs.Open.{Open}
 use Rattle.world.specs.Standing.{Course, resting, shut, standing}
 use Rattle.world.specs.World.{AsRole}

@@ -25,9 +25,9 @@ use Rattle.order_machine.specs.Machine.{Machine, Txn, without_role}
 use Rattle.order_machine.specs.Transitions.{HoldsBehind, IsProgress, refusal, is_above_all, is_told, with_survey}
 use Rattle.order_machine.specs.Legal.{IsWhole, moved}
 use Rattle.txn_front.specs.Front.{Fronted, going_of, nothing, AreAlike}
-use Rattle.replica.specs.declared.role.Role.{Role}
-use Rattle.replica.specs.declared.role.Role.TheVariants.{Other, Primary}
-use Rattle.replica.specs.declared.step.StepEvent.TheVariants as steps
+use Rattle.replica_model.specs.declared.role.Role.{Role}
+use Rattle.replica_model.specs.declared.role.Role.TheVariants.{Other, Primary}
+use Rattle.replica_model.specs.declared.step.StepEvent.TheVariants as steps
 use Rattle.replica.specs.Open.{Open, AreSame, commits_to, shown_in}
 use Rattle.replica.specs.Step.{stepped}
 use Rattle.replica.proofs.Lengthened.{records_surveyed}

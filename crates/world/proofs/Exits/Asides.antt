@@ -15,8 +15,8 @@ use Rattle.order_machine.specs.Order.{Entry, state_at}
 use Rattle.order_machine.specs.Contents.{rows_of}
 use Rattle.order_machine.specs.Machine.{Machine, replica, order_of}
 use Rattle.order_machine.specs.Legal.{IsWhole, moved}
-use Rattle.replica.specs.declared.role.Role.{Role}
-use Rattle.replica.specs.declared.role.Role.TheVariants.{Other, Primary}
+use Rattle.replica_model.specs.declared.role.Role.{Role}
+use Rattle.replica_model.specs.declared.role.Role.TheVariants.{Other, Primary}
 use Rattle.replica.specs.Open as opens
 use Rattle.replica.specs.Open.{Open, AgreesWith, HasRole, commits_to}
 use Rattle.world.specs.Disks.{as_commit}

@@ -10,7 +10,7 @@ use Rattle.txn_table.specs.declared.committed.Committed.{Committed}
 use Rattle.events.specs.declared.call.Call.{Call}
 use Rattle.order_machine.specs.declared.observation.Observation.{Observation}
 use Rattle.order_machine.specs.declared.observation.Observation.TheVariants as says
-use Rattle.replica.specs.declared.step.StepEvent.TheVariants as steps
+use Rattle.replica_model.specs.declared.step.StepEvent.TheVariants as steps
 use Rattle.replica.specs.Open.{Open}
 use Rattle.replica.specs.Step.{is_active, outcome}
 use Rattle.world.specs.declared.error.WorldError.{WorldError}

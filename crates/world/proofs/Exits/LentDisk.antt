@@ -13,8 +13,8 @@ use Rattle.world.specs.declared.error.WorldError.TheVariants as errors
 use Rattle.world.specs.Fleet.{images_of, faults_of, fault_lines, RoseBy, TellsZero}
 use Rattle.std.specs.Option.{option_map_or}
 use Rattle.rc_base.specs.declared.ids.Epoch.{Epoch}
-use Rattle.replica.specs.declared.role.Role.{Role}
-use Rattle.replica.specs.declared.role.Role.TheVariants.{Other, Primary}
+use Rattle.replica_model.specs.declared.role.Role.{Role}
+use Rattle.replica_model.specs.declared.role.Role.TheVariants.{Other, Primary}
 use Rattle.replica.specs.Open.{Open}
 use Rattle.world.specs.Course.{IsOurs}
 use Rattle.world.specs.Kept.{Kept, has_booted}

@@ -5,6 +5,7 @@ use Rattle.std.specs.Option.{ForSome, IsSome, IfSome}
 use Rattle.std.proofs.lemmas.Bool.{false≢true}
 use Rattle.std.proofs.lemmas.List.Elements.{All-from_recursion}
 use Rattle.std.proofs.lemmas.Option.{none-some}
+use Rattle.config_rule.specs.declared.appointments.Appointment.{Appointment}
 use Rattle.config_rule.specs.Rule.{Known, after_boot, after_active}
 use Rattle.rc_base.specs.Ids.{no_epoch, epoch_lt}
 use Rattle.key_locks.specs.declared.lock_mode.LockMode.TheVariants.{Exclusive}
@@ -24,9 +25,9 @@ use Rattle.order_machine.specs.Machine.{Machine, empty_machine}
 use Rattle.order_machine.specs.Legal.{IsWhole, moved}
 use Rattle.order_machine.specs.Transitions.{first_epoch}
 use Rattle.txn_front.specs.Front.{Fronted, nothing, going_of}
-use Rattle.replica.specs.declared.role.Role.TheVariants.{Other}
-use Rattle.replica.specs.declared.step.StepEvent.{StepEvent}
-use Rattle.replica.specs.declared.step.StepEvent.TheVariants as steps
+use Rattle.replica_model.specs.declared.role.Role.TheVariants.{Other}
+use Rattle.replica_model.specs.declared.step.StepEvent.{StepEvent}
+use Rattle.replica_model.specs.declared.step.StepEvent.TheVariants as steps
 use Rattle.replica.specs.Open as opens
 use Rattle.replica.specs.Open.{Open, AreSame, AgreesWith, commits_to}
 use Rattle.txn_table.specs.Whole.{stable_in}
@@ -35,7 +36,7 @@ use Rattle.world.specs.Fleet.{faults_in, TellsZero}
 use Rattle.world.specs.Course.{IsCourse, IsOurs, ArePast, IsFence}
 use Rattle.world.specs.Standing.{Course, first_course}
 use Rattle.world.specs.declared.effects.EventEffects.{EventEffects}
-use Rattle.world.specs.Steps.{effects_started, told_start, finished, log_once, log_twice, log_behind, HoldsSome}
+use Rattle.world.specs.Steps.{first_appointment, effects_started, told_start, finished, log_once, log_twice, log_behind, HoldsSome}
 use Rattle.world.specs.Disks.{as_commit}
 use Rattle.world.specs.Kept.{Kept, no_events, has_booted}
 use Rattle.world.specs.Running.{running, RunsWith}
@@ -49,7 +50,7 @@ use Rattle.world.proofs.Mounts.Reboot.{AreSound, sound_all, sound_follows, same_
 use Rattle.world.proofs.Epochs.StartMachines.{nothing_going}
 
 abbrev pub first_start : StepEvent
-first_start = steps.Start first_epoch
+first_start = steps.Appoint first_appointment
 
 -- ---- the log that an opening begins
 
@@ -93,7 +94,12 @@ fresh_over_new r log now new o stable role front =
     }
 
 pub fresh_may_start : (r : Open) → IsFresh r → MayStep r first_start
-fresh_may_start r f = ap (λ e. epoch_lt e first_epoch) f.epoch
+fresh_may_start r f = record {
+  above = ap (λ e. epoch_lt e first_epoch) f.epoch;
+  own = sym f.id;
+  alone = ap (λ n. n ∷ []) (sym f.id);
+  alone_before = ap (λ n. n ∷ []) (sym f.id);
+}
 
 pub start_told : (r : Open) → IsFresh r → told_start 0 r ≡ says.Active 0 ∷ []
 start_told r f = rw (f.ahead, f.shown, f.id) refl
@@ -152,11 +158,11 @@ past_first was_active = record {
 }
 
 -- all of the boot
-pub started_effects : (r : Open) (opened effects : EventEffects) → IsFresh r → opened ≡ boot_effects false (opened_lines r.shown) → effects ≡ effects_started opened first_epoch r → effects ≡ boot_effects true boot_lines
-started_effects r opened effects f is all =
+pub started_effects : (a : Appointment) (r : Open) (opened effects : EventEffects) → a ≡ first_appointment → IsFresh r → opened ≡ boot_effects false (opened_lines r.shown) → effects ≡ effects_started opened a r → effects ≡ boot_effects true boot_lines
+started_effects a r opened effects first f is all =
     let none : r.shown + length r.ahead ≡ 0 = rw (f.shown, f.ahead) refl in
-    all ∙ (ap (λ (d : EventEffects). effects_started d first_epoch r) (is ∙ ap (λ (n : ℕ). boot_effects false (opened_lines n)) f.shown)
-    ∙ (ap (λ (n : ℕ). record (effects_started (boot_effects false (opened_lines 0)) first_epoch r) { order = max 0 n }) none
+    all ∙ ap (λ (b : Appointment). effects_started opened b r) first ∙ (ap (λ (d : EventEffects). effects_started d first_appointment r) (is ∙ ap (λ (n : ℕ). boot_effects false (opened_lines n)) f.shown)
+    ∙ (ap (λ (n : ℕ). record (effects_started (boot_effects false (opened_lines 0)) first_appointment r) { order = max 0 n }) none
     ∙ ap (λ ls. boot_effects true ((opened_lines 0 ++ ls) ++ says.Done ∷ [])) (start_told r f)))
 
 -- nothing goes on in the first epoch
@@ -183,9 +189,11 @@ started_first r f = (
   (refl, refl),
 )
 
-pub boots_whole : (r x : Open) (log : Log) (now : Areas → Type 0) (opened effects : EventEffects) → IsFresh r → log ≡ new_log 0 → AreSame x (record (finished r first_start) { log = x.log }) → IsOpen x (log_behind r first_start log) now →
-    opened ≡ boot_effects false (opened_lines r.shown) → effects ≡ effects_started opened first_epoch r → Boots (Some x) now effects
-boots_whole r x log now opened effects f new kept o is all =
+pub boots_whole : (a : Appointment) (r x : Open) (log : Log) (now : Areas → Type 0) (opened effects : EventEffects) → a ≡ first_appointment → IsFresh r → log ≡ new_log 0 → AreSame x (record (finished r (steps.Appoint a)) { log = x.log }) → IsOpen x (log_behind r (steps.Appoint a) log) now →
+    opened ≡ boot_effects false (opened_lines r.shown) → effects ≡ effects_started opened a r → Boots (Some x) now effects
+boots_whole a r x log now opened effects first f new kept_so open_so is all =
+    let kept : AreSame x (record (finished r first_start) { log = x.log }) = subst (λ (b : Appointment). AreSame x (record (finished r (steps.Appoint b)) { log = x.log })) first kept_so in
+    let o : IsOpen x (log_behind r first_start log) now = subst (λ (b : Appointment). IsOpen x (log_behind r (steps.Appoint b) log) now) first open_so in
     let n : Machine = moved empty_machine (Boot 0 (0 ∷ [])) boot_lines in
     let y : Open = record (finished r first_start) { log = x.log; front = x.front } in
     let runs = runs_alike [] (first_course true) (nothing first_epoch) x.front (r.shown + length r.ahead) (folded r.contents (flat_map (λ c. c.ops) r.ahead)) n kept.front (started_first r f) in
@@ -202,7 +210,7 @@ boots_whole r x log now opened effects f new kept o is all =
       few = let none : x.front.begins ≡ 0 = ap (λ (g : Fronted). g.begins) kept.front.same in omega (arith, none);
       recorded = λ t going e. absurd (none-some going (sym (ap (λ (g : Fronted). going_of g t) kept.front.same ∙ nothing_going first_epoch t) ∙ e));
     } in
-    subst (Boots (Some x) now) (sym (started_effects r opened effects f is all)) (
+    subst (Boots (Some x) now) (sym (started_effects a r opened effects first f is all)) (
       boot_serves.0,
       subst (λ (z : Open). AsReplica (Some z) 1 now n) (sym kept.same) served,
       record { known = booted_rule true; rule = refl; appointed = (record { epoch = refl; members = refl; active = refl }, tt); current = refl; answers = refl; order = refl },
@@ -244,19 +252,19 @@ IsBootFault effects = (effects ≡ boot_effects false (mounted ++ says.Fault 0 �
 abbrev pub faulted_with : EventEffects → EventEffects
 faulted_with effects = record effects { lines = effects.lines ++ says.Fault 0 ∷ [] }
 
-pub boot_cut : {S : Type 0} (r : Open) (opened before : EventEffects) → IsFresh r → opened ≡ boot_effects false (opened_lines r.shown) → ((before ≡ opened) × S) ⊎ (before ≡ effects_started opened first_epoch r) → IsBootFault (faulted_with before)
-boot_cut r opened before f is (inl first) = inl (ap faulted_with (first.0 ∙ (is ∙ ap (λ (n : ℕ). boot_effects false (opened_lines n)) f.shown)))
-boot_cut r opened before f is (inr all) = inr (ap faulted_with (started_effects r opened before f is all))
+pub boot_cut : {S : Type 0} (a : Appointment) (r : Open) (opened before : EventEffects) → a ≡ first_appointment → IsFresh r → opened ≡ boot_effects false (opened_lines r.shown) → ((before ≡ opened) × S) ⊎ (before ≡ effects_started opened a r) → IsBootFault (faulted_with before)
+boot_cut a r opened before first f is (inl none) = inl (ap faulted_with (none.0 ∙ (is ∙ ap (λ (n : ℕ). boot_effects false (opened_lines n)) f.shown)))
+boot_cut a r opened before first f is (inr all) = inr (ap faulted_with (started_effects a r opened before first f is all))
 
 -- it failed as the epoch was started
-pub boots_unstarted : (r : Open) (log : Log) (now : Areas → Type 0) (effects : EventEffects) → log ≡ new_log 0 → HoldsSome r first_start log now → IsBootFault effects → Boots None now effects
-boots_unstarted r log now effects new holds cut = ⊎_elim
+pub boots_unstarted : (a : Appointment) (r : Open) (log : Log) (now : Areas → Type 0) (effects : EventEffects) → a ≡ first_appointment → log ≡ new_log 0 → HoldsSome r (steps.Appoint a) log now → IsBootFault effects → Boots None now effects
+boots_unstarted a r log now effects first new holds_so cut = ⊎_elim
     (λ (at_first : effects ≡ boot_effects false (mounted ++ says.Fault 0 ∷ [])). subst (Boots None now) (sym at_first) (
       boot_start_faults.0,
       record {
         entries = [];
         is_shut = record { acknowledged = []; txns = []; course = first_course false; shown = 0; is = boot_start_faults.1; ruled = course_first false; past = past_first false };
-        sound = sound_start false r log now new holds;
+        sound = sound_start false r log now new (subst (λ (b : Appointment). HoldsSome r (steps.Appoint b) log now) first holds_so);
       },
       record { known = after_boot (0 ∷ []); rule = refl; appointed = (record { epoch = refl; members = refl; active = refl }, tt); current = refl; answers = refl; order = refl },
     ))
@@ -265,7 +273,7 @@ boots_unstarted r log now effects new holds cut = ⊎_elim
       record {
         entries = [];
         is_shut = record { acknowledged = []; txns = []; course = first_course true; shown = 0; is = boot_barrier_faults.1; ruled = course_first true; past = past_first true };
-        sound = sound_start true r log now new holds;
+        sound = sound_start true r log now new (subst (λ (b : Appointment). HoldsSome r (steps.Appoint b) log now) first holds_so);
       },
       record { known = booted_rule true; rule = refl; appointed = (record { epoch = refl; members = refl; active = refl }, tt); current = refl; answers = refl; order = refl },
     ))

@@ -7,8 +7,8 @@ use Rattle.rc_base.specs.declared.ids.TxnId.{TxnId}
 use Rattle.order_machine.specs.Order.{Entry, length_of}
 use Rattle.order_machine.specs.Machine.{Machine, Replica, Txn, is_booted, replica, order_of}
 use Rattle.world.specs.Standing.{Course, standing, serving, resting, shut}
-use Rattle.replica.specs.declared.role.Role.{Role}
-use Rattle.replica.specs.declared.role.Role.TheVariants.{Other, Primary}
+use Rattle.replica_model.specs.declared.role.Role.{Role}
+use Rattle.replica_model.specs.declared.role.Role.TheVariants.{Other, Primary}
 use Rattle.replica.specs.Open.{Open}
 use Rattle.world.specs.Course.{AreNoted}
 use Rattle.world.specs.Kept.{Kept, has_booted}

@@ -2,8 +2,8 @@
 use Rattle.std.proofs.Common.{◌≡◌, ◌∙◌, sym, ap, subst, ℕ, [], true, append-nil, inl}
 use Rattle.disk_model.specs.Disk.{Areas}
 use Rattle.order_machine.specs.Machine.{Machine, without_role, ended_at}
-use Rattle.replica.specs.declared.role.Role.{Role}
-use Rattle.replica.specs.declared.role.Role.TheVariants.{Other, Primary}
+use Rattle.replica_model.specs.declared.role.Role.{Role}
+use Rattle.replica_model.specs.declared.role.Role.TheVariants.{Other, Primary}
 use Rattle.replica.specs.Open.{Open, commits_to}
 use Rattle.txn_table.specs.Whole.{stable_in}
 use Rattle.replica.proofs.Lengthened.{commits_prefix}

@@ -3,7 +3,7 @@ use Rattle.std.specs.Result.{IsErrOf}
 use Rattle.events.specs.declared.call.Call.{Call}
 use Rattle.log_store.specs.declared.kept.Kept.{Kept as Log}
 use Rattle.replica.specs.declared.error.StepError.TheVariants as errors
-use Rattle.replica.specs.declared.step.StepEvent.TheVariants as steps
+use Rattle.replica_model.specs.declared.step.StepEvent.TheVariants as steps
 use Rattle.std.specs.Prelude.{OnOk}
 use Rattle.world.specs.Steps.{IsCutOff, log_behind}
 use Rattle.world.specs.World.{IsOpen}

@@ -1,6 +1,6 @@
 use Rattle.std.proofs.Common.{◌∙◌, ap}
 use Rattle.replica.specs.Open.{Open}
-use Rattle.replica.specs.declared.step.StepEvent.TheVariants as steps
+use Rattle.replica_model.specs.declared.step.StepEvent.TheVariants as steps
 use Rattle.world.proofs.Calls.TwoSteps.{stepped_id}
 use Rattle.world.proofs.steps.take_survey.Goals as goal
 

@@ -2,7 +2,7 @@ use Rattle.std.proofs.Common.{◌∙◌, sym, ap}
 use Rattle.txn_front.specs.Front.{told}
 use Rattle.replica.specs.Open.{Open}
 use Rattle.replica.specs.Logging.{logged_to}
-use Rattle.replica.specs.Step.{logged_call}
+use Rattle.replica_model.specs.Records.{logged_call}
 use Rattle.replica.proofs.Told.{named_logs, none_logs}
 use Rattle.replica.proofs.replica.Replica.answer_call.Goals as goal
 use Rattle.replica.proofs.replica.Replica.answer_call.Goals.{in-Some+in_ok-bodies-in-Some, in-None}

@@ -1,7 +1,8 @@
 use Rattle.std.proofs.Common.{◌≡◌, ◌+◌, ◌++◌, ◌<◌, ◌^◌, length}
 use Rattle.std.specs.Vec.Iter.{into_iter_items}
 use Rattle.replica.specs.Logging.{AllFit}
-use Rattle.replica.specs.Step.{fences, placed}
+use Rattle.replica_model.specs.Records.{placed}
+use Rattle.replica.specs.Step.{fences}
 use Rattle.replica.proofs.replica.Replica.block.Given as goal
 
 abbrev pub invariant-loop-body : goal.invariant-loop-body

@@ -5,7 +5,7 @@ use Rattle.order_machine.specs.declared.observation.Observation.TheVariants as s
 use Rattle.order_machine.specs.Legal.{moved}
 use Rattle.events.specs.declared.event.Event.TheVariants.{Client}
 use Rattle.replica.specs.Step.{outcome}
-use Rattle.replica.specs.declared.step.StepEvent.TheVariants as steps
+use Rattle.replica_model.specs.declared.step.StepEvent.TheVariants as steps
 use Rattle.world.specs.declared.effects.EventEffects.{EventEffects}
 use Rattle.world.specs.Fleet.{TellsZero, faults_in}
 use Rattle.world.specs.Handling.{Handles}

@@ -1,4 +1,0 @@
-use rc_base::{Seq, TxnId};
-
-/// Transactions in some order.
-pub type TxnIds = Seq<TxnId>;
