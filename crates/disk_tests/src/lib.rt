@@ -1,7 +1,9 @@
-//! Tests of the disks: what calls and stops leave in memory, and the blocks of a log over them.
+//! Tests of the disks: what calls and stops leave in memory, and the blocks and slots over them.
 #![tactic(auto)]
 
 #[cfg(test)]
 mod blocks;
 #[cfg(test)]
 mod disk;
+#[cfg(test)]
+mod slots;
