@@ -18,7 +18,7 @@ use Rattle.replica_laws.proofs.QuietSteps.{all_appended, agrees_then}
 use Rattle.replica_laws.proofs.Raised.{at_end, serves_alone, raised_agrees}
 
 -- it logs the same
-logs : (x : Open) (o : OpenReplica) (images : Areas → Type 0) → AgreesOn x o images → block x steps.Barrier ≡ step_block o steps.Barrier
+pub logs : (x : Open) (o : OpenReplica) (images : Areas → Type 0) → AgreesOn x o images → block x steps.Barrier ≡ step_block o steps.Barrier
 logs x o images a =
     ap (λ (n : ℕ). placed n x.epoch (Barrier x.stable ∷ [])) (sym (last_is x o images a))
     ∙ (ap (λ (e : Epoch). placed (last_position o.disk) e (Barrier x.stable ∷ [])) (sym (epoch_is x o images a))

@@ -20,9 +20,8 @@ use Rattle.replica_model.specs.Records as records
 use Rattle.replica_model.specs.Records.{placed, step_block, logged_call, appended}
 use Rattle.replica_model.specs.Steps.{written, with_block, front_behind, step_answer}
 use Rattle.replica.specs.Open.{Open}
-use Rattle.replica.specs.Step.{is_active, reply, going_in, logged_by, block, answered, stepped, outcome, quiet, shown_commits, committed_by}
-use Rattle.replica_laws.specs.Agreement.{AgreesOn}
-use Rattle.replica_laws.specs.Laws.{RefusalsAgree}
+use Rattle.replica.specs.Step.{MayStep, is_active, reply, going_in, logged_by, block, answered, stepped, outcome, quiet, shown_commits, committed_by}
+use Rattle.replica_laws.specs.Agreement.{AgreesOn, IsStep, StepAgrees}
 use Rattle.replica_laws.proofs.Shown.{active_is}
 use Rattle.replica_laws.proofs.QuietSteps.{agrees_at, quiet_agrees}
 
@@ -35,7 +34,7 @@ none_logged_there : (o : OpenReplica) (call : Call) → model.is_active o ≡ fa
 none_logged_there o call off None = refl
 none_logged_there o call off (Some t) = ap (λ (b : Bool). option_map_or (λ going. logged_call (last_lsn o) t going call (records.reply o call)) (cond b (going_of o.front t) None) []) off
 
-pub refusals_agree : (before now : Areas → Type 0) → RefusalsAgree before now
+pub refusals_agree : (before now : Areas → Type 0) (call : Call) (x new : Open) (o : OpenReplica) → AgreesOn x o before → MayStep x (steps.Client call) → is_active x.role ≡ false → IsStep x new (steps.Client call) before now → StepAgrees x new o (steps.Client call) now
 refusals_agree before now call x new o a may off s =
     let off_there : model.is_active o ≡ false = active_is x o before a ∙ off in
     let here : block x (steps.Client call) ≡ [] = ap (λ (bodies : List Record). placed x.last.0 x.epoch bodies) (none_logged x call off (txn_named call)) in

@@ -24,7 +24,7 @@ use Rattle.replica_laws.proofs.Shown.{last_is, epoch_is, fence_is}
 use Rattle.replica_laws.proofs.QuietSteps.{agrees_at, quiet_agrees}
 
 -- it logs the same
-logs : (x : Open) (o : OpenReplica) (images : Areas → Type 0) (e : Epoch) → AgreesOn x o images → block x (steps.Survey e) ≡ step_block o (steps.Survey e)
+pub logs : (x : Open) (o : OpenReplica) (images : Areas → Type 0) (e : Epoch) → AgreesOn x o images → block x (steps.Survey e) ≡ step_block o (steps.Survey e)
 logs x o images e a = ap (λ (f : Epoch). cond (epoch_lt f e) (Fence e ∷ []) [] ++ []) (sym (fence_is x o images a))
 
 -- it is answered the same

@@ -1,18 +1,18 @@
 -- When a replica and its disk stand for an open replica of the model: it is a primary alone, or no primary.
-use Rattle.std.specs.Prelude.{◌≡◌, ◌⊎◌, ℕ, Bool, [], ◌∷◌, false, Option, Some, None}
+use Rattle.std.specs.Prelude.{◌≡◌, ◌⊎◌, ℕ, Bool, List, [], ◌∷◌, Contains, false, Option, Some, None, Ok}
 use Rattle.rc_base.specs.declared.ids.Epoch.{Epoch}
 use Rattle.disk_model.specs.Disk.{Areas}
 use Rattle.txn_table.specs.Log.{no_base}
-use Rattle.txn_table.specs.Whole.{Whole}
+use Rattle.txn_table.specs.Whole.{Whole, epoch_of}
 use Rattle.log_store.specs.declared.kept.Kept.{Kept}
-use Rattle.log_store.specs.Durable.{StandFor}
+use Rattle.log_store.specs.Durable.{durable, StandFor, StandForOneOf}
 use Rattle.log_store.specs.Growth.{after}
-use Rattle.log_store.specs.Store.{IsOpenOn}
+use Rattle.log_store.specs.Store.{Store, IsOpenOn}
 use Rattle.txn_front.specs.Front.{AreAlike}
 use Rattle.replica_model.specs.declared.role.Role.{Role}
 use Rattle.replica_model.specs.declared.role.Role.TheVariants.{Other, Primary}
 use Rattle.replica_model.specs.declared.step.StepEvent.{StepEvent}
-use Rattle.replica_model.specs.OpenReplica.{OpenReplica, Leading}
+use Rattle.replica_model.specs.OpenReplica.{OpenReplica, Leading, last_lsn, view_of, contents_of, unshown_commits}
 use Rattle.replica_model.specs.Records.{step_block}
 use Rattle.replica_model.specs.Steps.{step_result, step_outcome}
 use Rattle.replica.specs.Open.{Open, AreSame, AgreesWith}
@@ -51,6 +51,28 @@ pub record AgreesOn (x : Open) (o : OpenReplica) (images : Areas → Type 0) : T
   pub role : IsRoleOf x.id x.role o.leading
   pub front : AreAlike x.front o.front
 
+-- ---- what a replica keeps, by the model's value
+
+abbrev pub role_of : Option Leading → Role
+role_of None = Other
+role_of (Some l) = Primary l.epoch l.active
+
+-- what a replica with this store keeps that agrees with the value, up to the order between grants of different names
+abbrev pub kept_of : Store → OpenReplica → Open
+kept_of log o = record {
+  id = o.id;
+  log = log;
+  fence = o.disk.fence;
+  epoch = epoch_of o.disk;
+  last = last_lsn o;
+  stable = record { 0 = o.stable };
+  shown = view_of o;
+  contents = contents_of o;
+  ahead = unshown_commits o;
+  role = role_of o.leading;
+  front = o.front;
+}
+
 -- ---- a step
 
 -- what `Replica::step` promises of a step that was done
@@ -65,3 +87,15 @@ pub record StepAgrees (x new : Open) (o : OpenReplica) (event : StepEvent) (now 
   pub block : block x event ≡ step_block o event
   pub outcome : outcome x event ≡ step_outcome o event
   pub then : AgreesOn new (step_result o event) now
+
+-- ---- a step that failed
+
+-- what `Replica::step` promises of the disk, whether the step was done or not
+abbrev pub IsStop : Open → StepEvent → (before now : Areas → Type 0) → Type 0
+IsStop x event before now = (v : Kept) → StandFor v before → AgreesWith x v → StandForOneOf v (after v (block x event)) now
+
+-- this image holds one of these logs
+pub record HoldsOneOf (logs : List Whole) (image : Areas) : Type 0 where
+  pub kept : Kept
+  pub is : durable image ≡ Ok kept
+  pub one : Contains logs (whole_of kept)
