@@ -6,4 +6,6 @@ mod cases;
 #[cfg(test)]
 mod loading;
 #[cfg(test)]
+mod managing;
+#[cfg(test)]
 mod playing;

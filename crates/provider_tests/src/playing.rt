@@ -76,7 +76,7 @@ fn write_words(text: &mut Vec<u8>, words: &[Bytes]) -> Result<(), NoMemory> {
     Ok(())
 }
 
-fn write_rows(alloc: Global, text: &mut Vec<u8>, rows: &Rows) -> Result<(), NoMemory> {
+pub fn write_rows(alloc: Global, text: &mut Vec<u8>, rows: &Rows) -> Result<(), NoMemory> {
     let words = row_words(alloc, rows.kind(), rows)?;
     write_words(text, words.as_slice())
 }
@@ -187,7 +187,14 @@ fn done(alloc: Global, made: &mut Collection, step: &Step) -> Result<bool, LoadE
 }
 
 impl Told {
-    fn end_line(&mut self, wanted: &str) -> Result<(), NoMemory> {
+    pub fn new(alloc: Global) -> Told {
+        Told {
+            got: Vec::new(alloc),
+            wanted: Vec::new(alloc),
+        }
+    }
+
+    pub fn end_line(&mut self, wanted: &str) -> Result<(), NoMemory> {
         self.got.push(b'\n')?;
         self.wanted.extend_from_slice(wanted.as_bytes())?;
         self.wanted.push(b'\n')?;
@@ -201,7 +208,7 @@ impl Told {
         self.end_line(wanted)
     }
 
-    fn refuse(&mut self, wanted: &str) -> Result<(), NoMemory> {
+    pub fn refuse(&mut self, wanted: &str) -> Result<(), NoMemory> {
         self.got.extend_from_slice(b"refused")?;
         self.end_line(wanted)
     }
@@ -229,10 +236,7 @@ impl Told {
 
 // What the steps of each case tell, over a new collection of its kind.
 pub fn played(alloc: Global, cases: &[(Kind, &[Step])]) -> Result<Told, LoadError> {
-    let mut told = Told {
-        got: Vec::new(alloc),
-        wanted: Vec::new(alloc),
-    };
+    let mut told = Told::new(alloc);
     for (kind, steps) in cases {
         told.play(alloc, *kind, steps)?;
     }

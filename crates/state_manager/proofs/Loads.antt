@@ -1,5 +1,5 @@
 -- What is loaded of an image.
-use Rattle.std.proofs.Common.{◌≡◌, ◌∙◌, ◌≢◌, ◌⊎◌, inl, inr, ℕ, ◌+◌, ◌≤◌, ◌<◌, List, [], ◌∷◌, ◌++◌, length, take, drop, get_or, Some, nat_cmp, Ordering, Less, refl, sym, ap, subst, arith}
+use Rattle.std.proofs.Common.{◌≡◌, ◌∙◌, ◌≢◌, ◌⊎◌, inl, inr, ℕ, ◌+◌, ◌≤◌, ◌<◌, List, [], ◌∷◌, ◌++◌, length, take, drop, get_or, Some, nat_cmp, Ordering, Less, refl, sym, ap, ap₂, subst, arith}
 use Rattle.std.specs.Ordering.{match_ordering, ordering_reverse}
 use Rattle.std.specs.List.{AllByRecursion}
 use Rattle.std.specs.Cmp.Lexicographic.{slice_cmp, nat_list_cmp_total}
@@ -10,7 +10,9 @@ use Rattle.std.proofs.lemmas.Map.Keys.{sorted_head, sorted_tail}
 use Rattle.rc_base.specs.declared.ids.Lsn.{Lsn}
 use Rattle.coll_model.specs.declared.contents.Contents.{Contents}
 use Rattle.coll_model.specs.declared.rows.Collection.{Collection}
+use Rattle.coll_model.specs.declared.contents.Contents.TheVariants.{Dict, Queue}
 use Rattle.coll_model.specs.Effect.{State, at_key, with_key}
+use Rattle.coll_model.specs.Rows.{image, rows_of}
 use Rattle.coll_laws.specs.Rising.{AreRising}
 use Rattle.coll_laws.proofs.Entries.{cases_text, at_with_same, at_with_other, rising_with, rising-nil, same_rising}
 use Rattle.provider_law.specs.Replies.{contents_of}
@@ -85,6 +87,15 @@ module _ {P : Type 0} (least : P → ℕ) (view : P → ℕ → Contents) (v : �
       let y = get_or image i d in
       subst (λ (state : State). IsLoaded least view v state (with_key y.name chain chains)) (told_more image i d lt rising)
       (loaded_with (told_by (take i image)) chains y.name (contents_of y.rows) chain loaded kept views)
+
+-- what is saved tells the state
+pub told_image : (state : State) → told_by (image state) ≡ state
+told_image [] = refl
+told_image (e ∷ state) = ap₂ (λ (c : Contents) (l : State). (e.0, c) ∷ l) (same_contents e.1) (told_image state)
+  where
+    same_contents : (c : Contents) → contents_of (rows_of c) ≡ c
+    same_contents (Dict pairs) = refl
+    same_contents (Queue values) = refl
 
 -- the manager of what was loaded
 module _ {P : Type 0} (least : P → ℕ) (view : P → ℕ → Contents) (v : Lsn) (state : State) (chains : List (List ℕ × List (Slot P))) (loaded : IsLoaded least view v.0 state chains) where

@@ -267,7 +267,9 @@ impl<P: StateProvider> Manager<P> {
     /// `NoMemory` where it is out of memory.
     pub fn save(&self, v: Lsn) -> Result<Image, NoMemory>
         requires { self.now.floor.0 ≤ v.0 }
-        ensures { IfOk result (λ saved. saved ≡ image (state_at P.view self.now v.0)) }
+        ensures saved { IfOk result (λ saved. saved ≡ image (state_at P.view self.now v.0)) }
+        // It can be loaded.
+        ensures rising { IfOk result (λ saved. AreRising (told_by saved)) }
     {
         let mut saved = Image::new(self.alloc);
         for (name, chain) in self.chains.iter() {

@@ -6,8 +6,10 @@ use Rattle.std.specs.Option.{option_copied}
 use Rattle.std.proofs.lemmas.List.{append_assoc}
 use Rattle.coll_model.specs.Rows.{image}
 use Rattle.state_manager.specs.Chains.{standing, AreKept}
-use Rattle.state_manager.proofs.States.{shown, image_more}
-use Rattle.state_manager.specs.Managed.{Managed}
+use Rattle.state_manager.proofs.States.{shown, image_more, rising_shown}
+use Rattle.state_manager.proofs.Loads.{told_image}
+use Rattle.coll_laws.specs.Rising.{AreRising}
+use Rattle.state_manager.specs.Managed.{Managed, IsManaged, state_at, told_by}
 use Rattle.state_manager.proofs.Steps.{kept_at, all_kept, standing_kept}
 use Rattle.state_manager.proofs.manager.Manager.save.Goals as goal
 
@@ -42,3 +44,14 @@ loop-name-preserved g c =
     let S = g.P.StateProvider in
     let kept : List ℕ × List (Slot g.row.P.Denot) → Type 0 = λ entry. AreKept S.least c.args.v.0 entry.1 in
     (search rules, All-tail kept (c.in-Some.name.now, c.in-Some.chain.now) c.next.new.self (subst (All kept) c.in-Some.ensures.steps c.loop-name.invariant.1))
+
+pub returns-clause-saved : goal.returns-clause-saved
+returns-clause-saved g c = search rules
+
+pub returns-clause-rising : goal.returns-clause-rising
+returns-clause-rising g c =
+    let S = g.P.StateProvider in
+    let told : c.loop-name.saved ≡ image (state_at S.view c.args.self.now c.args.v.0) = returns-clause-saved g c in
+    let managed : IsManaged S.least S.view c.args.self.now = subst (IsManaged S.least S.view) c.self.view_is c.self.invariant in
+    subst (λ saved. AreRising (told_by saved)) (sym told)
+    (subst AreRising (sym (told_image (state_at S.view c.args.self.now c.args.v.0))) (rising_shown S.view c.args.v.0 c.args.self.now.chains managed.rising))
