@@ -6,7 +6,8 @@ use rc_base::{Bytes, Lsn, Name, NoMemory};
 use rc_collections::Collection;
 use std::alloc::Global;
 
-// Rounds go over the keys by this stride, so that one isn't beside the next. It is a prime, so each key comes.
+// Rounds go over the keys by this stride, so that one isn't beside the next, but for the forms that take each in its turn. It is a
+// prime, so each key comes.
 const STRIDE: u64 = 7_919;
 
 /// What rounds tell.
@@ -93,6 +94,14 @@ fn replace(alloc: Global, made: &mut Collection, key: u64) -> Result<(), NoMemor
     apply_next(made, put(alloc, key, key)?)
 }
 
+// The key or the place that a round names.
+fn named_by(form: Form, round: u64, size: u64) -> u64 {
+    match form {
+        Form::PutNext | Form::GetNext | Form::ItemNext => round.checked_rem(size).unwrap_or(0),
+        _ => place(round, size),
+    }
+}
+
 // Whether a look finds something.
 fn looked(
     alloc: Global,
@@ -101,10 +110,15 @@ fn looked(
     round: u64,
     size: u64,
 ) -> Result<bool, NoMemory> {
-    let there = place(round, size);
     let found = match form {
-        Form::Get => count(alloc, made, made.top(), Ask::Get(bytes(alloc, there)?))?,
-        Form::Item => count(alloc, made, made.top(), Ask::Item(there))?,
+        Form::Get | Form::GetNext => {
+            let key = bytes(alloc, named_by(form, round, size))?;
+            count(alloc, made, made.top(), Ask::Get(key))?
+        }
+        Form::Item | Form::ItemNext => {
+            let there = named_by(form, round, size);
+            count(alloc, made, made.top(), Ask::Item(there))?
+        }
         _ => count(alloc, made, Lsn(place(round, made.top().0)), Ask::Count)?,
     };
     Ok(found != 0)
@@ -118,7 +132,7 @@ fn change(
     round: u64,
     size: u64,
 ) -> Result<(), NoMemory> {
-    let key = place(round, size);
+    let key = named_by(form, round, size);
     match form {
         Form::Delete => replace(alloc, made, key),
         Form::Push => apply_next(made, push(alloc, round)?),
@@ -126,6 +140,13 @@ fn change(
         Form::UndoPop => apply_next(made, pop(alloc)),
         _ => apply_next(made, put(alloc, key, round)?),
     }
+}
+
+fn is_look(form: Form) -> bool {
+    matches!(
+        form,
+        Form::Get | Form::GetNext | Form::Item | Form::ItemNext | Form::Count
+    )
 }
 
 // Whether a round finds something. One that changes the collection finds nothing.
@@ -136,7 +157,7 @@ fn play_round(
     round: u64,
     size: u64,
 ) -> Result<bool, NoMemory> {
-    if matches!(form, Form::Get | Form::Item | Form::Count) {
+    if is_look(form) {
         return looked(alloc, made, form, round, size);
     }
     let before = made.top();
@@ -149,11 +170,11 @@ fn play_round(
     Ok(false)
 }
 
-// A collection of so many items, each at a version of its own.
-fn made_of(alloc: Global, kind: Kind, size: u64) -> Result<Collection, NoMemory> {
+// A collection of so many items, each at a version of its own, whose keys are put in the order in which rounds name them.
+fn made_of(alloc: Global, kind: Kind, form: Form, size: u64) -> Result<Collection, NoMemory> {
     let mut made = Collection::make(alloc, kind);
     for number in 0..size {
-        let key = place(number, size);
+        let key = named_by(form, number, size);
         match kind {
             Kind::Dict => apply_next(&mut made, put(alloc, key, number)?)?,
             Kind::Queue => apply_next(&mut made, push(alloc, number)?)?,
@@ -187,7 +208,7 @@ pub fn play(
     size: u64,
     rounds: u64,
 ) -> Result<Played, NoMemory> {
-    let mut made = made_of(alloc, kind, size)?;
+    let mut made = made_of(alloc, kind, form, size)?;
     let found = play_rounds(alloc, &mut made, form, size, rounds)?;
     let at_last = count(alloc, &made, made.top(), Ask::Count)?;
     Ok(Played { found, at_last })
