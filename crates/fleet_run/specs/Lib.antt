@@ -2,5 +2,12 @@ pub mod Scenes
 pub mod Acts
 pub mod Plans
 pub mod Kernel
+pub mod Sound
 pub mod Laws
+pub mod Rows
+pub mod Phases
+pub mod Fronts
+pub mod Stops
+pub mod Acknowledging
 pub mod ThreeBoot
+pub mod LostCommit

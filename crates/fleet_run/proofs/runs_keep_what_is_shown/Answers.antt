@@ -1,0 +1,5 @@
+use Rattle.fleet_run.proofs.Stopping.{runs_keep_what_is_shown as law}
+use Rattle.fleet_run.proofs.runs_keep_what_is_shown.Goals as goal
+
+pub returns : goal.returns
+returns c = law

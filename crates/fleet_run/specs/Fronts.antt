@@ -1,0 +1,45 @@
+-- What the machine and a primary agree on of the transactions that go on there, and the answers that follow.
+use Rattle.std.specs.Prelude.{◌≡◌, ℕ, ◌≤◌, Bool, true, false, None, Some, MatchOption}
+use Rattle.rc_base.specs.declared.ids.TxnId.{TxnId}
+use Rattle.events.specs.declared.call.Call.{Call}
+use Rattle.events.specs.declared.call.Call.TheVariants as calls
+use Rattle.events.specs.declared.answer.Reply.{Reply}
+use Rattle.txn_table.specs.Whole.{last_position}
+use Rattle.txn_front.specs.Front.{going_of}
+use Rattle.order_machine.specs.Machine.{Machine, Role, Txn, replica, role_of, order_of, grants_of, live_txn, ops_of}
+use Rattle.order_machine.specs.Order.{state_at}
+use Rattle.order_machine.specs.Clients.{answer, answered_at}
+use Rattle.order_machine.specs.Transitions.{asking}
+use Rattle.replica_model.specs.declared.step.StepEvent.TheVariants as steps
+use Rattle.replica_model.specs.Steps.{written}
+use Rattle.replica_model.specs.OpenReplica.{OpenReplica, contents_of, is_active}
+use Rattle.replica_model.specs.Records.{reply}
+
+-- The primary is up and active in both, shows the same contents, counts the same begins, has the same locks; and the same transactions go on there, with
+-- the same operations.
+pub record FrontAgrees (m : Machine) (r : ℕ) (o : OpenReplica) : Type 0 where
+  pub number : o.id ≡ r
+  pub up : (replica m r).up ≡ true
+  pub active : is_active o ≡ true
+  pub role : (role : Role) × (role_of m r ≡ Some role) × (role.active ≡ true) × (role.epoch ≡ o.front.epoch) × (role.begins ≡ o.front.begins)
+  pub contents : contents_of o ≡ state_at (order_of m r) (replica m r).show
+  pub grants : o.front.grants ≡ grants_of m r
+  pub going : (t : TxnId) → MatchOption (going_of o.front t) (live_txn m r t ≡ None) (λ going. (x : Txn) × (live_txn m r t ≡ Some x) × (going.ops ≡ ops_of x))
+
+-- then the primary answers each call as the machine does
+abbrev pub CallsAreAnsweredAlike : Type 0
+CallsAreAnsweredAlike = (m : Machine) (r : ℕ) (o : OpenReplica) (call : Call) → FrontAgrees m r o → reply o call ≡ answer m r call
+
+-- a call on a collection
+abbrev pub is_on_collection : Call → Bool
+is_on_collection calls.Begin = false
+is_on_collection (calls.Make t name kind) = true
+is_on_collection (calls.OnKey t name key call) = true
+is_on_collection (calls.Commit t) = false
+is_on_collection (calls.Abort t) = false
+
+-- Once such a call is answered, they agree on what goes on then: the primary behind what it logs, and the machine behind the answer.
+abbrev pub CollectionCallsKeepFronts : Type 0
+CollectionCallsKeepFronts =
+    (m : Machine) (r : ℕ) (o : OpenReplica) (call : Call) (told : Reply) → FrontAgrees m r o → is_on_collection call ≡ true → o.stable ≤ last_position o.disk → reply o call ≡ Some told
+    → FrontAgrees (answered_at (asking m r call) r call told) r (written o (steps.Client call))
