@@ -115,6 +115,10 @@ start_item e = (e, records.EpochStart e)
 abbrev pub started : Whole → Epoch → Whole
 started w e = record w { log = w.log ++ start_item e ∷ []; fence = later w.fence e }
 
+-- the epoch of the role that was given is the appointment's
+own_epoch : (a : Appointment) (l : Leading) → (y : Leading) × (Some (appointed_to a) ≡ Some y) × (l.epoch ≡ y.epoch) → l.epoch ≡ a.epoch
+own_epoch a l y = y.2 ∙ ap (λ (z : Leading). z.epoch) (sym (some_same (appointed_to a) y.0 y.1))
+
 pub record Begun (f g : Fleet Record) (r : ℕ) (now : FleetReplica) : Type 0 where
   pub fleet : Fleet Record
   pub moved : Moved f fleet r now
@@ -200,10 +204,7 @@ module _ (f g : Fleet Record) (p : ℕ) (o : OpenReplica) (a : Appointment) (bef
         rule = rule_then g w.fleet h.fleet w.rule h.rule;
         standing = h.standing;
         kept = subst IsKept (sym h.disk) kept_given;
-        epoch = λ l lead.
-            let y = h.epoch l lead in
-            let own : y.0.epoch ≡ a.epoch = ap (λ (z : Leading). z.epoch) (sym (some_same (appointed_to a) y.0 y.1)) in
-            ◌∙◌ {b = y.0.epoch} y.2 own;
+        epoch = λ l lead. own_epoch a l (h.epoch l lead);
       }
 
   pub start_written : written o (steps.Appoint a) ≡ primary

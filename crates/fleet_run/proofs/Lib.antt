@@ -33,3 +33,4 @@ pub mod Acknowledged
 pub mod Stopping
 pub mod Answering
 pub mod OwnCalls
+pub mod OwnEnds

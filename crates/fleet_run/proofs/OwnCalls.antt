@@ -43,11 +43,11 @@ use Rattle.order_machine.specs.Transitions.{asking, asking_locks}
 use Rattle.fleet_run.proofs.Acknowledged.{self_txn}
 
 -- the transaction, if it goes on at r
-abbrev live_of : ℕ → Option Txn → Option Txn
+abbrev pub live_of : ℕ → Option Txn → Option Txn
 live_of r y = cond (option_map_or (λ x. x.live && (x.home == r)) y false) y None
 
 -- with one more call
-abbrev with_call : CallRecord → Txn → Txn
+abbrev pub with_call : CallRecord → Txn → Txn
 with_call c x = record x { calls = x.calls ++ c ∷ [] }
 
 live_step : (r : ℕ) (c : CallRecord) (x : Txn) (b : Bool) → cond b (Some (with_call c x)) None ≡ option_map (with_call c) (cond b (Some x) None)
@@ -89,7 +89,7 @@ appended_grows (physicals.Reset slot at len ∷ items) w = appended_grows items 
 appended_grows (physicals.Head generation partition ∷ items) w = appended_grows items w
 
 -- and leaves what was stable
-stable_contents : (items : List Physical) (w : Whole) (s : ℕ) → s ≤ last_position w → contents_to (appended w items) s ≡ contents_to w s
+pub stable_contents : (items : List Physical) (w : Whole) (s : ℕ) → s ≤ last_position w → contents_to (appended w items) s ≡ contents_to w s
 stable_contents items w s within =
     let g = appended_grows items w in
     let k = s - w.start.at.0 in
@@ -100,10 +100,10 @@ stable_contents items w s within =
 -- ---- the front
 
 -- what goes on is the same, whatever the last record is
-abbrev GoesAlike : Option Going → Option Txn → Type 0
+abbrev pub GoesAlike : Option Going → Option Txn → Type 0
 GoesAlike going live = MatchOption going (live ≡ None) (λ going. (x : Txn) × (live ≡ Some x) × (going.ops ≡ ops_of x))
 
-last_alike : (lsn : Lsn) (going : Option Going) (live : Option Txn) → GoesAlike going live → GoesAlike (option_map (λ (g : Going). let h : Going = record g { last = lsn } in h) going) live
+pub last_alike : (lsn : Lsn) (going : Option Going) (live : Option Txn) → GoesAlike going live → GoesAlike (option_map (λ (g : Going). let h : Going = record g { last = lsn } in h) going) live
 last_alike lsn None live is = is
 last_alike lsn (Some g) live is = is
 
@@ -168,14 +168,14 @@ record IsLocked (m n : Machine) (r : ℕ) (gs : List Grant) : Type 0 where
   at : replica n r ≡ record (replica m r) { grants = gs }
 
 -- a replica that is up is there
-up_there : (m : Machine) (r : ℕ) → (replica m r).up ≡ true → r < length m.replicas
+pub up_there : (m : Machine) (r : ℕ) → (replica m r).up ≡ true → r < length m.replicas
 up_there m r up = elim (cases_lt r (length m.replicas)) [
   | inl lt ↦ lt
   | inr past ↦ absurd (false≢true (sym (ap (λ (x : Replica). x.up) (get_or_past m.replicas r never_opened past)) ∙ up))
 ]
 
 -- what noting a call leaves
-noted_machine : (m : Machine) (t : TxnId) (c : CallRecord) (y : Option Txn) → ((option_map_or (λ x. put_txn m t (with_call c x)) y m).replicas ≡ m.replicas) × ((option_map_or (λ x. put_txn m t (with_call c x)) y m).orders ≡ m.orders)
+pub noted_machine : (m : Machine) (t : TxnId) (c : CallRecord) (y : Option Txn) → ((option_map_or (λ x. put_txn m t (with_call c x)) y m).replicas ≡ m.replicas) × ((option_map_or (λ x. put_txn m t (with_call c x)) y m).orders ≡ m.orders)
 noted_machine m t c None = (refl, refl)
 noted_machine m t c (Some x) = (refl, refl)
 

@@ -1,5 +1,8 @@
 -- What the machine and a primary agree on of the transactions that go on there, and the answers that follow.
 use Rattle.std.specs.Prelude.{◌≡◌, ℕ, ◌≤◌, Bool, true, false, None, Some, MatchOption}
+use Rattle.std.specs.Ordering.{nat_cmp}
+use Rattle.std.specs.List.Sorted.{IsStrictlySortedBy}
+use Rattle.std.specs.Map.{keys_of}
 use Rattle.rc_base.specs.declared.ids.TxnId.{TxnId}
 use Rattle.events.specs.declared.call.Call.{Call}
 use Rattle.events.specs.declared.call.Call.TheVariants as calls
@@ -43,3 +46,22 @@ abbrev pub CollectionCallsKeepFronts : Type 0
 CollectionCallsKeepFronts =
     (m : Machine) (r : ℕ) (o : OpenReplica) (call : Call) (told : Reply) → FrontAgrees m r o → is_on_collection call ≡ true → o.stable ≤ last_position o.disk → reply o call ≡ Some told
     → FrontAgrees (answered_at (asking m r call) r call told) r (written o (steps.Client call))
+
+-- So they do once a begin is answered,
+abbrev pub BeginsKeepFronts : Type 0
+BeginsKeepFronts =
+    (m : Machine) (r : ℕ) (o : OpenReplica) (told : Reply) → FrontAgrees m r o → o.stable ≤ last_position o.disk → reply o calls.Begin ≡ Some told
+    → FrontAgrees (answered_at (asking m r calls.Begin) r calls.Begin told) r (written o (steps.Client calls.Begin))
+
+-- and once the commit of a transaction that goes on is asked, which has no answer of its own; those that go on stand by rising number.
+abbrev pub CommitsKeepFronts : Type 0
+CommitsKeepFronts =
+    (m : Machine) (r : ℕ) (o : OpenReplica) (t : TxnId) → FrontAgrees m r o → IsStrictlySortedBy nat_cmp (keys_of o.front.live) → o.stable ≤ last_position o.disk → reply o (calls.Commit t) ≡ None
+    → FrontAgrees (asking m r (calls.Commit t)) r (written o (steps.Client (calls.Commit t)))
+
+-- So they do once an abort is answered, whether its transaction goes on or not, and once the commit of one that doesn't is.
+abbrev pub EndsKeepFronts : Type 0
+EndsKeepFronts =
+    (m : Machine) (r : ℕ) (o : OpenReplica) (t : TxnId) (told : Reply) → FrontAgrees m r o → IsStrictlySortedBy nat_cmp (keys_of o.front.live) → o.stable ≤ last_position o.disk
+    → (reply o (calls.Abort t) ≡ Some told → FrontAgrees (answered_at (asking m r (calls.Abort t)) r (calls.Abort t) told) r (written o (steps.Client (calls.Abort t))))
+    × (reply o (calls.Commit t) ≡ Some told → FrontAgrees (answered_at (asking m r (calls.Commit t)) r (calls.Commit t) told) r (written o (steps.Client (calls.Commit t))))

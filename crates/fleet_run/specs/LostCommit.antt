@@ -1,5 +1,4 @@
--- A run of a fleet: a commit whose step is cut off behind its write is shown by the primary of a later epoch. Of three replicas that there are to be,
--- the configuration is replica 0 alone.
+-- A run of a fleet: a commit whose step is cut off behind its write is shown by the primary of a later epoch. Replica 0 is the only member.
 use Rattle.std.specs.Prelude.{ℕ, List, [], ◌∷◌}
 use Rattle.rc_base.specs.declared.ids.Epoch.{Epoch}
 use Rattle.rc_base.specs.declared.ids.TxnId.{TxnId}

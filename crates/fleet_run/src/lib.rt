@@ -4,7 +4,7 @@
 
 ghost use Rattle.fleet_run.specs.Acknowledging.{AcknowledgementsMayCome, LaterPrimariesShowMore};
 ghost use Rattle.fleet_run.specs.Stops.{RunsKeepWhatIsShown, StopsKeepWhatIsShown};
-ghost use Rattle.fleet_run.specs.Fronts.{CallsAreAnsweredAlike, CollectionCallsKeepFronts};
+ghost use Rattle.fleet_run.specs.Fronts.{BeginsKeepFronts, CallsAreAnsweredAlike, CollectionCallsKeepFronts, CommitsKeepFronts, EndsKeepFronts};
 ghost use Rattle.fleet_run.specs.LostCommit.{LostCommit};
 ghost use Rattle.fleet_run.specs.Laws.{ActsKeepSound, AppointmentsAreAllowed, BarriersAreAllowed, BeginningsKeepSound, EventsKeepSound, FirstIsSound, LinesKeepTerms, LogsHaveSamePrefix, RunsAreSound, StableLogsAreOne, WhatIsShownIsHeld};
 ghost use Rattle.fleet_run.specs.Phases.{OrderAndViewMayCome, StableCommitsAreOne};
@@ -137,4 +137,19 @@ pub fn calls_are_answered_alike()
 /// Once a call on a collection is answered, a primary and the machine agree on what goes on then.
 pub fn collection_calls_keep_fronts()
     ensures { CollectionCallsKeepFronts }
+{}
+
+/// So they do once a begin is answered.
+pub fn begins_keep_fronts()
+    ensures { BeginsKeepFronts }
+{}
+
+/// So they do once the commit of a transaction that goes on is asked.
+pub fn commits_keep_fronts()
+    ensures { CommitsKeepFronts }
+{}
+
+/// So they do once an abort is answered, or the commit of a transaction that has ended.
+pub fn ends_keep_fronts()
+    ensures { EndsKeepFronts }
 {}
