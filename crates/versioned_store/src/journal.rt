@@ -29,8 +29,10 @@ pub(crate) fn ends_above(journal: &VecDeque<JournalEntry>, v: Lsn) -> bool
 
 // Whether the first change came at or below the version.
 pub(crate) fn starts_within(journal: &VecDeque<JournalEntry>, v: Lsn) -> bool
+    requires { IsNonDecreasingBy (λ entry. entry.at.0) journal.now.items }
     ensures some { result ≡ true → 0 < length journal.now.items }
     ensures within { result ≡ true → (first : Entry) (rest : List Entry) → journal.now.items ≡ first ∷ rest → first.at.0 ≤ v.0 }
+    ensures beyond { result ≡ false → All (λ entry. v.0 < entry.at.0) journal.now.items }
 {
     match journal.front() {
         Some(first) => first.at <= v,

@@ -1,4 +1,4 @@
-ghost use Rattle.std.specs.Prelude.{◌≡◌, ℕ, ◌≤◌, map, All, IfOk, OnOk, OnErr, IsTrue};
+ghost use Rattle.std.specs.Prelude.{◌≡◌, ℕ, ◌≤◌, ◌<◌, map, All, IfOk, OnOk, OnErr, IsTrue};
 ghost use Rattle.std.specs.List.Sorted.{IsNonDecreasingBy, IsStrictlySortedBy};
 ghost use Rattle.std.specs.Ordering.{nat_cmp};
 ghost use Rattle.std.specs.Cmp.Lexicographic.{slice_cmp};
@@ -131,6 +131,7 @@ pub(crate) fn merge_front(
     requires rises { IsNonDecreasingBy (λ entry. entry.at.0) journal.old.items }
     requires tells { Tells journal.old.items chains.old.entries }
     ensures agrees { AgreesAt (λ w. v.0 ≤ w) base_count chains.old.entries journal.old.items result chains.new.entries journal.new.items }
+    ensures beyond { All (λ entry. v.0 < entry.at.0) journal.new.items }
     ensures was_ordered { IsOrdered (slice_cmp nat_cmp) chains.old }
     ensures ordered { IsOrdered (slice_cmp nat_cmp) chains.new }
 {

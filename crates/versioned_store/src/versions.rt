@@ -1,4 +1,4 @@
-ghost use Rattle.std.specs.Prelude.{◌≡◌, ℕ, ◌<◌, ◌≤◌, [], min, max, length, if◌then◌else◌, OnOk, OnErr, IfOk};
+ghost use Rattle.std.specs.Prelude.{◌≡◌, ℕ, ◌<◌, ◌≤◌, [], min, max, length, All, if◌then◌else◌, OnOk, OnErr, IfOk};
 ghost use Rattle.std.specs.Option.{option_copied};
 ghost use Rattle.std.specs.Ordering.{nat_cmp};
 ghost use Rattle.std.specs.Cmp.Lexicographic.{slice_cmp};
@@ -192,6 +192,8 @@ impl Versions {
         ensures floor { self.new.floor ≡ v }
         ensures top { self.new.top.0 ≡ max self.old.top.0 v.0 }
         ensures pairs { (w : ℕ) → v.0 ≤ w → pairs self.new w ≡ pairs self.old w }
+        // No change at or below it is kept.
+        ensures forgets { All (λ entry. v.0 < entry.at.0) self.new.journal.items }
     {
         self.base_count = merge_front(&mut self.chains, &mut self.journal, self.base_count, v);
         self.floor = v;

@@ -2,6 +2,9 @@ use Rattle.std.proofs.Common.{rules, ◌≡◌, ◌∷◌}
 use Rattle.versioned_store.proofs.Turns.{front_turn}
 use Rattle.versioned_store.proofs.steps.merge_front.Goals as goal
 
+pub starts_within-requires : goal.starts_within-requires
+starts_within-requires c = c.loop-v.invariant.agrees.rises
+
 pub loop-v-preserved-in-Some : goal.loop-v-preserved-in-Some
 loop-v-preserved-in-Some c =
     let rest = c.pop_front.new.self.items in
