@@ -1,5 +1,5 @@
 pub mod Kept
-mod Behind
+pub mod Behind
 pub mod Steps
 pub mod Opened
 pub mod Runs

@@ -1,0 +1,9 @@
+pub mod Forward
+pub mod Keeping
+pub mod Serving
+pub mod RoleEnds
+pub mod Stops
+pub mod QuietSteps
+pub mod Inspections
+pub mod Surveys
+pub mod Starting

@@ -1,0 +1,50 @@
+-- The laws of the lines of a fleet's events.
+use Rattle.std.specs.Prelude.{◌≡◌, ◌≢◌, ℕ, List, None}
+use Rattle.rc_base.specs.declared.ids.Epoch.{Epoch}
+use Rattle.events.specs.declared.event.Event.{Event}
+use Rattle.events.specs.declared.event.Event.TheVariants.{Arm, Crash, Reboot, Inspect, Survey}
+use Rattle.order_machine.specs.declared.observation.Observation.{Observation}
+use Rattle.order_machine.specs.Transitions.{refusal}
+use Rattle.order_machine.specs.Legal.{IsWhole, moved}
+use Rattle.fleet_run.specs.Scenes.{FleetState, first_state}
+use Rattle.fleet_run.specs.Plans.{GoesBy}
+use Rattle.fleet_run.specs.Laws.{IsSpelled}
+use Rattle.fleet_rows.specs.Served.{Served}
+
+-- ---- one event
+
+-- Lines with which an event led from one state to another: they are whole by the rows of the machine, the machine of the second is the one behind them, and
+-- it is served.
+pub record AreServed (s : FleetState) (event : Event) (lines : List Observation) (t : FleetState) : Type 0 where
+  pub whole : IsWhole s.machine event lines
+  pub moved : t.machine ≡ moved s.machine event lines
+  pub served : Served t
+
+-- the event, however it goes from a state that is served, has such lines
+abbrev pub Serves : Event → Type 0
+Serves event = (s t : FleetState) (lines : List Observation) → Served s → GoesBy s event lines t → AreServed s event lines t
+
+-- ---- the laws
+
+-- before anything happened the fleet is served
+abbrev pub FirstIsServed : Type 0
+FirstIsServed = Served first_state
+
+-- an event that the machine refuses has its one line
+abbrev pub RefusedAreServed : Type 0
+RefusedAreServed = (s t : FleetState) (event : Event) (lines : List Observation) → Served s → refusal s.machine event ≢ None → GoesBy s event lines t → AreServed s event lines t
+
+abbrev pub ArmsAreServed : Type 0
+ArmsAreServed = (r calls : ℕ) → Serves (Arm r calls)
+
+abbrev pub InspectionsAreServed : Type 0
+InspectionsAreServed = (r : ℕ) → Serves (Inspect r)
+
+abbrev pub CrashesAreServed : Type 0
+CrashesAreServed = (r pick : ℕ) → Serves (Crash r pick)
+
+abbrev pub RebootsAreServed : Type 0
+RebootsAreServed = (r : ℕ) → Serves (Reboot r)
+
+abbrev pub SurveysAreServed : Type 0
+SurveysAreServed = (r : ℕ) (e : Epoch) → IsSpelled (Survey r e) → Serves (Survey r e)

@@ -1,0 +1,42 @@
+//! The lines of a fleet's events: however an event goes from a state that is served, its lines are whole by the rows of the
+//! machine, and the state behind them is served. Each law is the contract of a function that does nothing.
+#![tactic(auto)]
+
+ghost use Rattle.fleet_rows.specs.Laws.{ArmsAreServed, CrashesAreServed, FirstIsServed, InspectionsAreServed, RebootsAreServed, RefusedAreServed, SurveysAreServed};
+
+/// Before anything happened the fleet is served.
+pub fn first_is_served()
+    ensures { FirstIsServed }
+{}
+
+/// An event that the machine refuses has its one line, and leaves all as it was.
+pub fn refused_are_served()
+    ensures { RefusedAreServed }
+{}
+
+/// A disk may be armed.
+pub fn arms_are_served()
+    ensures { ArmsAreServed }
+{}
+
+/// An inspection tells what its replica shows: that is what the machine knows.
+pub fn inspections_are_served()
+    ensures { InspectionsAreServed }
+{}
+
+/// A crash closes a replica, whatever it was: its role ends, and with it what goes on there.
+pub fn crashes_are_served()
+    ensures { CrashesAreServed }
+{}
+
+/// A reboot opens a replica over any of the logs that its disk may hold, and it shows a beginning of the order; or its disk
+/// fails.
+pub fn reboots_are_served()
+    ensures { RebootsAreServed }
+{}
+
+/// A survey ends the role of its replica, and tells how far the log reaches, whose last epoch was appointed; or it is ignored, by a
+/// fence that was told; or the disk fails in it, and holds the old fence or the new one.
+pub fn surveys_are_served()
+    ensures { SurveysAreServed }
+{}
