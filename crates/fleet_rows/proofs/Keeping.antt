@@ -155,6 +155,7 @@ front_elsewhere q m n f e front = record {
   grants = subst (λ (rep : Replica). Alike rep.grants f.grants) (sym e.same) front.grants;
   going = λ t. live_stays q m n e.stays t ∙ front.going t;
   rising = front.rising;
+  recorded = front.recorded;
 }
 
 pub requests_stay : (q : ℕ) (m n : Machine) (epoch : Epoch) (commits : List Committed) → HomeStays q m.txns n.txns → ContainsRequests m.txns q epoch commits → ContainsRequests n.txns q epoch commits

@@ -7,3 +7,9 @@ pub mod QuietSteps
 pub mod Inspections
 pub mod Surveys
 pub mod Starting
+pub mod AnswerRows
+pub mod CallChanges
+pub mod FrontSteps
+pub mod QuietCalls
+pub mod PrimaryCalls
+pub mod CallLaws

@@ -1,10 +1,12 @@
 -- The laws of the lines of a fleet's events.
-use Rattle.std.specs.Prelude.{◌≡◌, ◌≢◌, ℕ, List, None}
+use Rattle.std.specs.Prelude.{◌≡◌, ◌≢◌, ℕ, false, List, None}
 use Rattle.rc_base.specs.declared.ids.Epoch.{Epoch}
 use Rattle.events.specs.declared.event.Event.{Event}
-use Rattle.events.specs.declared.event.Event.TheVariants.{Arm, Crash, Reboot, Inspect, Survey}
+use Rattle.events.specs.declared.event.Event.TheVariants.{Client, Arm, Crash, Reboot, Inspect, Survey}
+use Rattle.events.specs.declared.call.Call.{Call}
 use Rattle.order_machine.specs.declared.observation.Observation.{Observation}
-use Rattle.order_machine.specs.Transitions.{refusal}
+use Rattle.order_machine.specs.Clients.{answer}
+use Rattle.order_machine.specs.Transitions.{refusal, logs}
 use Rattle.order_machine.specs.Legal.{IsWhole, moved}
 use Rattle.fleet_run.specs.Scenes.{FleetState, first_state}
 use Rattle.fleet_run.specs.Plans.{GoesBy}
@@ -48,3 +50,9 @@ RebootsAreServed = (r : ℕ) → Serves (Reboot r)
 
 abbrev pub SurveysAreServed : Type 0
 SurveysAreServed = (r : ℕ) (e : Epoch) → IsSpelled (Survey r e) → Serves (Survey r e)
+
+-- a call that is answered and logs nothing: a begin, a read, and whatever is refused
+abbrev pub QuietCallsAreServed : Type 0
+QuietCallsAreServed =
+    (s t : FleetState) (r : ℕ) (call : Call) (lines : List Observation) → Served s → logs s.machine call (answer s.machine r call) ≡ false → GoesBy s (Client r call) lines t
+    → AreServed s (Client r call) lines t

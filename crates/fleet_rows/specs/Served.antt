@@ -1,5 +1,5 @@
 -- When a fleet is served: what its replicas keep, and what the machine knows that its lines tell, are one.
-use Rattle.std.specs.Prelude.{◌≡◌, ◌⊎◌, ℕ, Bool, true, false, List, [], ◌∷◌, ◌++◌, map, length, take, Contains, Some, None, is_some, option_map, MatchOption, MatchBool}
+use Rattle.std.specs.Prelude.{◌≡◌, ◌⊎◌, ℕ, ◌==◌, Bool, true, false, List, [], ◌∷◌, ◌++◌, map, length, take, Contains, Some, None, is_some, option_map, MatchOption, MatchBool}
 use Rattle.std.specs.List.{list_any}
 use Rattle.std.specs.List.Sorted.{IsStrictlySortedBy}
 use Rattle.std.specs.Map.{keys_of}
@@ -16,7 +16,7 @@ use Rattle.order_machine.specs.Machine.{Machine, Role, empty_machine, replica, r
 use Rattle.order_machine.specs.Legal.{Step, AreWhole, moved_all}
 use Rattle.history_laws.specs.Texts.{IsText}
 use Rattle.history_laws.specs.LockGuards.{ContainsRequests, ReplicaGuard, IdleReplica, ShownCommits, entry_of}
-use Rattle.txn_front.specs.Front.{Fronted, going_of}
+use Rattle.txn_front.specs.Front.{Fronted, Going, going_of}
 use Rattle.replica_model.specs.OpenReplica.{OpenReplica, Leading, shown_commits, unshown_commits, view_of}
 use Rattle.replica_model.specs.Quorums.{is_of_epoch}
 use Rattle.fleet_laws.specs.Fleets.{Fleet, IsAppointed}
@@ -80,11 +80,13 @@ pub record IsBystander (m : Machine) (r : ℕ) : Type 0 where
   pub no_role : role_of m r ≡ None
   pub idle : IdleReplica m r
 
--- What goes on at a primary is what is live there, each with the operations that its calls logged, under the same locks.
+-- What goes on at a primary is what is live there, each with the operations that its calls logged, under the same locks. It has records in the log
+-- where it has operations.
 pub record IsFrontOf (m : Machine) (r : ℕ) (f : Fronted) : Type 0 where
   pub grants : Alike (grants_of m r) f.grants
   pub going : (t : TxnId) → option_map (λ x. ops_of x) (live_txn m r t) ≡ option_map (λ g. g.ops) (going_of f t)
   pub rising : IsStrictlySortedBy nat_cmp (keys_of f.live)
+  pub recorded : (t : TxnId) (g : Going) → going_of f t ≡ Some g → (g.last.0 == 0) ≡ (length g.ops == 0)
 
 -- Until a primary is active nothing goes on there, and what its log commits is all at each place that is of its epoch.
 pub record IsWaiting (m : Machine) (r : ℕ) (o : OpenReplica) (l : Leading) : Type 0 where

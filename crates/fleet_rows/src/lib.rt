@@ -2,7 +2,7 @@
 //! machine, and the state behind them is served. Each law is the contract of a function that does nothing.
 #![tactic(auto)]
 
-ghost use Rattle.fleet_rows.specs.Laws.{ArmsAreServed, CrashesAreServed, FirstIsServed, InspectionsAreServed, RebootsAreServed, RefusedAreServed, SurveysAreServed};
+ghost use Rattle.fleet_rows.specs.Laws.{ArmsAreServed, CrashesAreServed, FirstIsServed, InspectionsAreServed, QuietCallsAreServed, RebootsAreServed, RefusedAreServed, SurveysAreServed};
 
 /// Before anything happened the fleet is served.
 pub fn first_is_served()
@@ -39,4 +39,11 @@ pub fn reboots_are_served()
 /// fence that was told; or the disk fails in it, and holds the old fence or the new one.
 pub fn surveys_are_served()
     ensures { SurveysAreServed }
+{}
+
+/// A client's call that is answered and logs nothing: it has the one answer of the machine, at a replica that is closed, at one that
+/// is no active primary, and at an active primary: a begin, a read, a call that a lock or the collection refuses, one of a
+/// transaction that has ended, and the abort of one that has logged nothing.
+pub fn quiet_calls_are_served()
+    ensures { QuietCallsAreServed }
 {}
