@@ -125,7 +125,7 @@ module _ (m : Machine) (r : ℕ) (t : TxnId) where
 
 -- ---- the order before a transaction
 
-holds_commits : (cs : List Committed) (u : TxnId) → holds (map order_entry cs) u ≡ has_commit cs u
+pub holds_commits : (cs : List Committed) (u : TxnId) → holds (map order_entry cs) u ≡ has_commit cs u
 holds_commits [] u = refl
 holds_commits (c ∷ cs) u = ap (λ (b : Bool). is_txn u c.txn || b) (holds_commits cs u)
 

@@ -34,3 +34,5 @@ pub mod Stopping
 pub mod Answering
 pub mod OwnCalls
 pub mod OwnEnds
+pub mod Rising
+pub mod OwnLooks

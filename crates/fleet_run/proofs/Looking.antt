@@ -49,7 +49,7 @@ none_newly o (Some l) = ap (λ (cs : List Committed). txns_of l.epoch cs) (drop_
 acknowledging_itself : (o : OpenReplica) → acknowledging o o ≡ o
 acknowledging_itself o = ap (λ (ts : List TxnId). let x : OpenReplica = record o { front = unlocked_all o.front ts } in x) (none_newly o o.leading)
 
-looked_as : (o : OpenReplica) (l : Leading) → o.leading ≡ Some l → looked o ≡ acknowledging o (stable_at o l (quorum_number o l))
+pub looked_as : (o : OpenReplica) (l : Leading) → o.leading ≡ Some l → looked o ≡ acknowledging o (stable_at o l (quorum_number o l))
 looked_as o l lead = ap (λ (x : Option Leading). option_map_or (λ y. acknowledging o (stable_at o y (quorum_number o y))) x o) lead
 
 pub looked_none : (o : OpenReplica) → o.leading ≡ None → looked o ≡ o

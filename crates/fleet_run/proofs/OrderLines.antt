@@ -3,7 +3,7 @@ use Rattle.std.proofs.Common.{◌≡◌, ◌∙◌, ℕ, ◌+◌, ◌-◌, ◌<�
 use Rattle.std.specs.Prelude.{◌||◌, ◌==◌, is_none, nat_lt}
 use Rattle.std.specs.Option.{option_map_or}
 use Rattle.std.proofs.lemmas.Bool.{cases_lt, or_right, ltb-true, ltb-false, le-leb, false≢true}
-use Rattle.std.proofs.lemmas.List.{append_assoc, append-nil, nil_from_length, map-append, length-append, length-map, length-set, drop-drop, drop_at, drop_all as drop_past, get_or-set_same, get_or_past}
+use Rattle.std.proofs.lemmas.List.{append_assoc, append-nil, nil_from_length, map-append, length-append, length-map, length-set, drop-drop, drop_at, drop_all as drop_past, get_or-set_same, get_or-set_other, get_or_past}
 use mathlib.Core.List.{IsPrefix}
 use Rattle.txn_table.specs.declared.committed.Committed.{Committed}
 use Rattle.txn_table.specs.Log.{Items, no_base, commits_from, commits_in}
@@ -38,7 +38,7 @@ stable_commits_are_one m n replicas now f g s run u r q a b c d = elim (stable_l
 
 -- ---- lines of the order
 
-lines_append : (p : Position) (xs ys : List Observation) → Lines p xs → Lines (behind p xs) ys → Lines p (xs ++ ys)
+pub lines_append : (p : Position) (xs ys : List Observation) → Lines p xs → Lines (behind p xs) ys → Lines p (xs ++ ys)
 lines_append p [] ys a b = b
 lines_append p (x ∷ xs) ys a b = (a.0, lines_append (after p x) xs ys a.1 b)
 
@@ -53,11 +53,12 @@ record HasGrown (p q : Position) : Type 0 where
   opening : q.opening ≡ p.opening
   faulted : q.faulted ≡ p.faulted
   grows : may_grow q ≡ may_grow p
-  boot : is_boot q.event ≡ is_boot p.event
+  event : q.event ≡ p.event
+  client : q.client ≡ p.client
   rank : p.rank ≤ 2 → q.rank ≤ 2
 
 grown_self : (p : Position) → HasGrown p p
-grown_self p = record { replicas = refl; txns = refl; acknowledged = refl; appointments = refl; primary = refl; acts = λ r. refl; opening = refl; faulted = refl; grows = refl; boot = refl; rank = λ le. le }
+grown_self p = record { replicas = refl; txns = refl; acknowledged = refl; appointments = refl; primary = refl; acts = λ r. refl; opening = refl; faulted = refl; grows = refl; event = refl; client = refl; rank = λ le. le }
 
 grown_more : (p : Position) (c : Committed) (q : Position) → HasGrown (after p (order_line c)) q → HasGrown p q
 grown_more p c q x = record {
@@ -70,7 +71,8 @@ grown_more p c q x = record {
   opening = x.opening;
   faulted = x.faulted;
   grows = x.grows;
-  boot = x.boot;
+  event = x.event;
+  client = x.client;
   rank = λ le. x.rank (omega arith);
 }
 
@@ -193,19 +195,29 @@ module _ (p q : Position) (r : ℕ) (start : IsAtStart p r) (before ordered now 
           tt,
         ),
         record {
-          order = (
-            longer,
-            subst (λ (o : Order). OrderCommits o [] longer) (sym (ap (λ (z : Position). order_of z.machine r) is ∙ order_shown q r n grows rank opening faulted role_now acts)) order,
-            first,
-            second,
-          );
-          shows = ap (λ (z : Position). (replica z.machine r).show) is ∙ ap (λ (z : Replica). z.show) (shown_replica q r n grows rank opening faulted role_now acts);
-          rank = omega (arith, view_rank q r n grows rank opening faulted role_now acts);
-          opening = ap (λ (z : Position). z.opening) is ∙ opening;
-          growing = ap (λ (z : Position). z.growing) is;
-          faulted = ap (λ (z : Position). z.faulted) is ∙ faulted;
-          txns = ap (λ (z : Position). z.machine.txns) is ∙ x.txns;
-          acknowledged = ap (λ (z : Position). z.machine.acknowledged) is ∙ x.acknowledged;
+          shown = record {
+            base = ap (λ (z : Position). (order_of z.machine r).base) is ∙ ap (λ (o : Order). o.base) (order_shown q r n grows rank opening faulted role_now acts) ∙ base;
+            up = ap (λ (z : Position). (replica z.machine r).up) is ∙ ap (λ (z : Replica). z.up) (shown_replica q r n grows rank opening faulted role_now acts) ∙ ap (λ (rs : List Replica). (get_or rs r never_opened).up) x.replicas;
+            grants = ap (λ (z : Position). (replica z.machine r).grants) is ∙ ap (λ (z : Replica). z.grants) (shown_replica q r n grows rank opening faulted role_now acts) ∙ ap (λ (rs : List Replica). (get_or rs r never_opened).grants) x.replicas;
+            elsewhere = λ k ne. ap (λ (z : Position). replica z.machine k) is ∙ get_or-set_other q.machine.replicas r k _ never_opened ne ∙ ap (λ (rs : List Replica). get_or rs k never_opened) x.replicas;
+            event = ap (λ (z : Position). z.event) is ∙ x.event;
+            primary = ap (λ (z : Position). z.primary) is ∙ x.primary;
+            client = ap (λ (z : Position). z.client) is ∙ x.client;
+            order = (
+              longer,
+              subst (λ (o : Order). OrderCommits o [] longer) (sym (ap (λ (z : Position). order_of z.machine r) is ∙ order_shown q r n grows rank opening faulted role_now acts)) order,
+              first,
+              second,
+            );
+            shows = ap (λ (z : Position). (replica z.machine r).show) is ∙ ap (λ (z : Replica). z.show) (shown_replica q r n grows rank opening faulted role_now acts);
+            rank = omega (arith, view_rank q r n grows rank opening faulted role_now acts);
+            opening = ap (λ (z : Position). z.opening) is ∙ opening;
+            growing = ap (λ (z : Position). z.growing) is;
+            faulted = ap (λ (z : Position). z.faulted) is ∙ faulted;
+            txns = ap (λ (z : Position). z.machine.txns) is ∙ x.txns;
+            acknowledged = ap (λ (z : Position). z.machine.acknowledged) is ∙ x.acknowledged;
+          };
+          role = ap (λ (z : Position). role_of z.machine r) is ∙ ap (λ (z : Replica). z.role) (shown_replica q r n grows rank opening faulted role_now acts) ∙ ap (λ (rs : List Replica). (get_or rs r never_opened).role) x.replicas;
           appointments = ap (λ (z : Position). z.machine.appointments) is ∙ x.appointments;
         },
       )
@@ -213,14 +225,24 @@ module _ (p q : Position) (r : ℕ) (start : IsAtStart p r) (before ordered now 
       let less : length now ≤ length before = ltb-false (length before) (length now) ge in (
         tt,
         record {
-          order = (longer, order, first, second);
-          shows = show_now ∙ omega (arith, less, le);
-          rank = omega (arith, x.rank start.rank);
-          opening = x.opening ∙ start.opening;
-          growing = rests less;
-          faulted = x.faulted ∙ start.faulted;
-          txns = x.txns;
-          acknowledged = x.acknowledged;
+          shown = record {
+            base = base;
+            up = ap (λ (rs : List Replica). (get_or rs r never_opened).up) x.replicas;
+            grants = ap (λ (rs : List Replica). (get_or rs r never_opened).grants) x.replicas;
+            elsewhere = λ k ne. ap (λ (rs : List Replica). get_or rs k never_opened) x.replicas;
+            event = x.event;
+            primary = x.primary;
+            client = x.client;
+            order = (longer, order, first, second);
+            shows = show_now ∙ omega (arith, less, le);
+            rank = omega (arith, x.rank start.rank);
+            opening = x.opening ∙ start.opening;
+            growing = rests less;
+            faulted = x.faulted ∙ start.faulted;
+            txns = x.txns;
+            acknowledged = x.acknowledged;
+          };
+          role = ap (λ (rs : List Replica). (get_or rs r never_opened).role) x.replicas;
           appointments = x.appointments;
         },
       )

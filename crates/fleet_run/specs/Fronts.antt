@@ -1,5 +1,5 @@
 -- What the machine and a primary agree on of the transactions that go on there, and the answers that follow.
-use Rattle.std.specs.Prelude.{◌≡◌, ℕ, ◌≤◌, Bool, true, false, None, Some, MatchOption}
+use Rattle.std.specs.Prelude.{◌≡◌, ℕ, ◌≤◌, Bool, true, false, List, ◌++◌, map, None, Some, MatchOption}
 use Rattle.std.specs.Ordering.{nat_cmp}
 use Rattle.std.specs.List.Sorted.{IsStrictlySortedBy}
 use Rattle.std.specs.Map.{keys_of}
@@ -7,16 +7,24 @@ use Rattle.rc_base.specs.declared.ids.TxnId.{TxnId}
 use Rattle.events.specs.declared.call.Call.{Call}
 use Rattle.events.specs.declared.call.Call.TheVariants as calls
 use Rattle.events.specs.declared.answer.Reply.{Reply}
+use Rattle.txn_table.specs.declared.committed.Committed.{Committed}
+use Rattle.txn_table.specs.Log.{no_base}
 use Rattle.txn_table.specs.Whole.{last_position}
 use Rattle.txn_front.specs.Front.{going_of}
 use Rattle.order_machine.specs.Machine.{Machine, Role, Txn, replica, role_of, order_of, grants_of, live_txn, ops_of}
 use Rattle.order_machine.specs.Order.{state_at}
 use Rattle.order_machine.specs.Clients.{answer, answered_at}
-use Rattle.order_machine.specs.Transitions.{asking}
+use Rattle.order_machine.specs.declared.observation.Observation.{Observation}
+use Rattle.order_machine.specs.declared.observation.Observation.TheVariants as says
+use Rattle.order_machine.specs.Transitions.{Position, asking}
+use Rattle.order_machine.specs.Legal.{behind}
+use Rattle.replica_model.specs.declared.step.StepEvent.{StepEvent}
 use Rattle.replica_model.specs.declared.step.StepEvent.TheVariants as steps
-use Rattle.replica_model.specs.Steps.{written}
-use Rattle.replica_model.specs.OpenReplica.{OpenReplica, contents_of, is_active}
+use Rattle.replica_model.specs.Steps.{written, step_result, step_outcome}
+use Rattle.replica_model.specs.OpenReplica.{OpenReplica, contents_of, is_active, shown_commits}
 use Rattle.replica_model.specs.Records.{reply}
+use Rattle.fleet_run.specs.Acts.{order_lines, view_line, active_line}
+use Rattle.fleet_run.specs.Phases.{IsAtStart, ComesToShow}
 
 -- The primary is up and active in both, shows the same contents, counts the same begins, has the same locks; and the same transactions go on there, with
 -- the same operations.
@@ -65,3 +73,14 @@ EndsKeepFronts =
     (m : Machine) (r : ℕ) (o : OpenReplica) (t : TxnId) (told : Reply) → FrontAgrees m r o → IsStrictlySortedBy nat_cmp (keys_of o.front.live) → o.stable ≤ last_position o.disk
     → (reply o (calls.Abort t) ≡ Some told → FrontAgrees (answered_at (asking m r (calls.Abort t)) r (calls.Abort t) told) r (written o (steps.Client (calls.Abort t))))
     × (reply o (calls.Commit t) ≡ Some told → FrontAgrees (answered_at (asking m r (calls.Commit t)) r (calls.Commit t) told) r (written o (steps.Client (calls.Commit t))))
+
+-- The lines of a step at an active primary that show its commits: those of the order and of the view, and what is acknowledged.
+abbrev pub showing_lines : Machine → OpenReplica → StepEvent → List Observation
+showing_lines m o step =
+    let told = step_outcome o step in order_lines m o told.commits ++ view_line o told ++ active_line o step told ++ map says.Committed told.acknowledged
+
+-- They agree on what goes on behind these lines, if they did behind what the step wrote: the primary shows what it shows, and the locks of what is acknowledged go in both.
+abbrev pub LooksKeepFronts : Type 0
+LooksKeepFronts =
+    (p : Position) (o : OpenReplica) (step : StepEvent) (before ordered now later : List Committed) → IsAtStart p o.id → ComesToShow p o (step_outcome o step) before ordered now later → FrontAgrees p.machine o.id (written o step)
+    → (step_result o step).disk.start ≡ no_base → shown_commits (step_result o step) ≡ now → FrontAgrees (behind p (showing_lines p.machine o step)).machine o.id (step_result o step)

@@ -4,7 +4,7 @@ use mathlib.Core.List.{IsPrefix}
 use Rattle.log_records.specs.declared.record.Record.{Record}
 use Rattle.txn_table.specs.declared.committed.Committed.{Committed}
 use Rattle.txn_table.specs.Log.{Items, commits_in}
-use Rattle.order_machine.specs.Machine.{Machine, replica, role_of, order_of}
+use Rattle.order_machine.specs.Machine.{Machine, replica, role_of, order_of, grants_of}
 use Rattle.order_machine.specs.Transitions.{Position, may_grow, is_actor}
 use Rattle.order_machine.specs.Legal.{Lines, behind}
 use Rattle.replica_model.specs.declared.step.Outcome.{Outcome}
@@ -50,16 +50,29 @@ pub record ComesToShow (p : Position) (o : OpenReplica) (told : Outcome) (before
   pub one : IsPrefix ordered now ⊎ IsPrefix now ordered
   pub text : IsText p.machine.txns [] (now ++ later)
 
--- what the lines leave: the order is the longer of the two, the replica shows what it shows, and nothing waits
-pub record HasShown (p q : Position) (r : ℕ) (ordered now : List Committed) : Type 0 where
+-- What the lines up to a rank leave: the order is the longer of the two, the replica shows what it shows, and nothing waits; of the other replicas all is as it was, and here
+-- the locks.
+pub record ShowsBehind (p q : Position) (r : ℕ) (ordered now : List Committed) (last : ℕ) : Type 0 where
   pub order : (longer : List Committed) × OrderCommits (order_of q.machine r) [] longer × IsPrefix ordered longer × IsPrefix now longer
+  pub base : (order_of q.machine r).base ≡ 0
   pub shows : (replica q.machine r).show ≡ length now
-  pub rank : q.rank ≤ 3
+  pub up : (replica q.machine r).up ≡ (replica p.machine r).up
+  pub grants : grants_of q.machine r ≡ grants_of p.machine r
+  pub elsewhere : (other : ℕ) → (other ≡ r → ⊥) → replica q.machine other ≡ replica p.machine other
+  pub rank : q.rank ≤ last
   pub opening : q.opening ≡ None
   pub growing : q.growing ≡ false
   pub faulted : q.faulted ≡ []
   pub txns : q.machine.txns ≡ p.machine.txns
   pub acknowledged : q.machine.acknowledged ≡ p.machine.acknowledged
+  pub event : q.event ≡ p.event
+  pub primary : q.primary ≡ p.primary
+  pub client : q.client ≡ p.client
+
+-- those of the order and of the view leave the roles too
+pub record HasShown (p q : Position) (r : ℕ) (ordered now : List Committed) : Type 0 where
+  pub shown : ShowsBehind p q r ordered now 3
+  pub role : role_of q.machine r ≡ role_of p.machine r
   pub appointments : q.machine.appointments ≡ p.machine.appointments
 
 -- Then the lines of the order and of the view may come where they stand.

@@ -2,9 +2,9 @@
 //! contract of a function that does nothing.
 #![tactic(auto)]
 
-ghost use Rattle.fleet_run.specs.Acknowledging.{AcknowledgementsMayCome, LaterPrimariesShowMore};
+ghost use Rattle.fleet_run.specs.Acknowledging.{AcknowledgementsMayCome, ActiveMayCome, LaterPrimariesShowMore};
 ghost use Rattle.fleet_run.specs.Stops.{RunsKeepWhatIsShown, StopsKeepWhatIsShown};
-ghost use Rattle.fleet_run.specs.Fronts.{BeginsKeepFronts, CallsAreAnsweredAlike, CollectionCallsKeepFronts, CommitsKeepFronts, EndsKeepFronts};
+ghost use Rattle.fleet_run.specs.Fronts.{BeginsKeepFronts, CallsAreAnsweredAlike, CollectionCallsKeepFronts, CommitsKeepFronts, EndsKeepFronts, LooksKeepFronts};
 ghost use Rattle.fleet_run.specs.LostCommit.{LostCommit};
 ghost use Rattle.fleet_run.specs.Laws.{ActsKeepSound, AppointmentsAreAllowed, BarriersAreAllowed, BeginningsKeepSound, EventsKeepSound, FirstIsSound, LinesKeepTerms, LogsHaveSamePrefix, RunsAreSound, StableLogsAreOne, WhatIsShownIsHeld};
 ghost use Rattle.fleet_run.specs.Phases.{OrderAndViewMayCome, StableCommitsAreOne};
@@ -113,6 +113,12 @@ pub fn later_primaries_show_more()
     ensures { LaterPrimariesShowMore }
 {}
 
+/// Where a primary becomes active, and shows all that was acknowledged up to its epoch, the line of that may come behind those of the
+/// order and of the view.
+pub fn active_may_come()
+    ensures { ActiveMayCome }
+{}
+
 /// What a primary has come to show of its own epoch is acknowledged in turn, and nothing that it shows is pending then.
 pub fn acknowledgements_may_come()
     ensures { AcknowledgementsMayCome }
@@ -152,4 +158,9 @@ pub fn commits_keep_fronts()
 /// So they do once an abort is answered, or the commit of a transaction that has ended.
 pub fn ends_keep_fronts()
     ensures { EndsKeepFronts }
+{}
+
+/// So they do behind the lines that show a step's commits and acknowledge them: their locks go in both.
+pub fn looks_keep_fronts()
+    ensures { LooksKeepFronts }
 {}
