@@ -39,7 +39,7 @@ use Rattle.fleet_run.specs.Laws.{EventsKeepSound}
 use Rattle.fleet_rows.specs.Laws.{AreServed, QuietCallsAreServed}
 use Rattle.fleet_rows.proofs.Keeping.{Done, Shows, goes_by, replica_elsewhere, numbered_there}
 use Rattle.fleet_rows.proofs.Serving.{served_done, shows_as, says_only}
-use Rattle.fleet_rows.proofs.QuietSteps.{IsQuiet, one_step, open_is_open, inside}
+use Rattle.fleet_rows.proofs.QuietSteps.{quiet_from, IsQuiet, one_step, open_is_open, inside}
 
 module _ (s t : FleetState) (v : Served s) (r : ℕ) (call : Call) (lines : List Observation) (d : Done s (Client r call) lines t) (told : Reply) (is : answer s.machine r call ≡ Some told) (quiet : logs s.machine call (Some told) ≡ false) where
   abbrev own : List Observation
@@ -91,14 +91,15 @@ module _ (s t : FleetState) (v : Served s) (r : ℕ) (call : Call) (lines : List
         | inr off ↦ (o, inactive_leaves s v r call told o is up here off)
       ]
 
+  looks_any : (o : OpenReplica) → replica_at s.replicas r ≡ Open o → looked (written o (steps.Client call)) ≡ written o (steps.Client call)
+  looks_any o up = let k = (leaves_any o up).1 in ap looked k.written_is ∙ k.looks ∙ sym k.written_is
+
   quiet_any : (o : OpenReplica) → replica_at s.replicas r ≡ Open o → IsQuiet o (steps.Client call)
   quiet_any o up =
       let y = leaves_any o up in
       let k = y.1 in
-      record {
-        looks = ap looked k.written_is ∙ k.looks ∙ sym k.written_is;
-        view = ap (λ (x : OpenReplica). replicas.view_of x) k.written_is ∙ ap (λ (w : Whole). count_to w y.0.stable) k.disk ∙ ap (λ (n : ℕ). count_to o.disk n) k.stable;
-      }
+      quiet_from o (steps.Client call) (looks_any o up)
+      (ap (λ (x : OpenReplica). replicas.view_of x) k.written_is ∙ ap (λ (w : Whole). count_to w y.0.stable) k.disk ∙ ap (λ (n : ℕ). count_to o.disk n) k.stable)
 
   open_case : (o : OpenReplica) → replica_at s.replicas r ≡ Open o → Shows s (Client r call) lines t
   open_case one up_one =
@@ -112,7 +113,7 @@ module _ (s t : FleetState) (v : Served s) (r : ℕ) (call : Call) (lines : List
       elim k.went [
         | inl fine ↦
             shows_as s t (record { machine = now; replicas = set s.replicas r (Open y.0) }) (Client r call) lines own (fine.lines_are ∙ line)
-            (fine.ends ∙ ap (λ (ls : List Observation). state ls (written o (steps.Client call))) line ∙ ap (state own) y.1.written_is
+            (fine.ends ∙ ap (state (answer_lines (step_answer o (steps.Client call)) ++ inspection_lines o (steps.Client call) ++ [])) (looks_any o k.up) ∙ ap (λ (ls : List Observation). state ls (written o (steps.Client call))) line ∙ ap (state own) y.1.written_is
             ∙ ap (λ (n : Machine). let u : FleetState = record { machine = n; replicas = set s.replicas r (Open y.0) } in u) (call_served s v r call told is).1)
             (open_shows s v r call told is o y.0 k.up y.1.disk y.1.own)
         | inr failed ↦ absurd (failed.logs y.1.unlogged)

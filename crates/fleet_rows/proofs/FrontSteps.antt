@@ -35,12 +35,15 @@ use Rattle.txn_front.proofs.Fronts.{found_live, going_of-begun, going_of-begun_o
 use Rattle.replica_model.specs.OpenReplica.{OpenReplica, Leading}
 use Rattle.replica_model.specs.Quorums.{looked, quorum_number, is_of_epoch, acknowledging, stable_at}
 use Rattle.fleet_run.proofs.Looking.{risen, risen_settled}
-use Rattle.fleet_rows.specs.Served.{IsFrontOf}
+use Rattle.txn_table.specs.declared.known.Known.{Known}
+use Rattle.txn_table.specs.Commits.{with_txn}
+use Rattle.txn_table.specs.Whole.{Whole, transactions_of}
+use Rattle.fleet_rows.specs.Served.{IsFrontOf, IsLoggedBy, IsKnownAs}
 
 -- ---- looking with another front
 
 -- an active primary that has looked has what was reached as stable
-reached_stable : (o : OpenReplica) (l : Leading) → o.leading ≡ Some l → l.active ≡ true → looked o ≡ o → quorum_number o l ≤ o.stable
+pub reached_stable : (o : OpenReplica) (l : Leading) → o.leading ≡ Some l → l.active ≡ true → looked o ≡ o → quorum_number o l ≤ o.stable
 reached_stable o l lead active settled =
     let n = quorum_number o l in
     let most : max o.stable n ≡ o.stable =
@@ -103,13 +106,13 @@ live_of q o = cond (option_map_or (λ (x : Txn). x.live && (x.home == q)) o fals
 abbrev ops_at : ℕ → Option Txn → Option (List Op)
 ops_at q o = option_map (λ (x : Txn). ops_of x) (live_of q o)
 
-put_other : (m : Machine) (q : ℕ) (t u : TxnId) (y : Txn) → is_txn u t ≡ false → ops_at q (txn_of (put_txn m t y) u) ≡ ops_at q (txn_of m u)
+pub put_other : (m : Machine) (q : ℕ) (t u : TxnId) (y : Txn) → is_txn u t ≡ false → ops_at q (txn_of (put_txn m t y) u) ≡ ops_at q (txn_of m u)
 put_other m q t u y other = ap (λ (b : Bool). ops_at q (cond b (Some y) (txn_of m u))) other
 
-put_own : (m : Machine) (q : ℕ) (t : TxnId) (y : Txn) → ops_at q (txn_of (put_txn m t y) t) ≡ ops_at q (Some y)
+pub put_own : (m : Machine) (q : ℕ) (t : TxnId) (y : Txn) → ops_at q (txn_of (put_txn m t y) t) ≡ ops_at q (Some y)
 put_own m q t y = ap (λ (b : Bool). ops_at q (cond b (Some y) (txn_of m t))) (is_txn_same t)
 
-live_one : (q : ℕ) (y : Txn) → y.live ≡ true → y.home ≡ q → ops_at q (Some y) ≡ Some (ops_of y)
+pub live_one : (q : ℕ) (y : Txn) → y.live ≡ true → y.home ≡ q → ops_at q (Some y) ≡ Some (ops_of y)
 live_one q y live home = ap (λ (b : Bool). option_map (λ (x : Txn). ops_of x) (cond (b && (y.home == q)) (Some y) None)) live ∙ ap (λ (b : Bool). option_map (λ (x : Txn). ops_of x) (cond b (Some y) None)) (eq-eqb y.home q home)
 
 dead_one : (q : ℕ) (y : Txn) → y.live ≡ false → ops_at q (Some y) ≡ None
@@ -179,7 +182,7 @@ locks_changes m r f t x c gs hs is known live home none alike now =
       recorded = λ y there. is.recorded t y there;
     })
 
-ended_none : (f : Fronted) (t : TxnId) (y : Going) → IsStrictlySortedBy nat_cmp (keys_of f.live) → going_of f t ≡ Some y → going_of (front.ended f t) t ≡ None
+pub ended_none : (f : Fronted) (t : TxnId) (y : Going) → IsStrictlySortedBy nat_cmp (keys_of f.live) → going_of f t ≡ Some y → going_of (front.ended f t) t ≡ None
 ended_none f t y rising there =
     ap (λ (o : Option Going). going_of (option_map_or (λ (g : Going). record f { live = remove_entry (is_at (nat_cmp t.n)) f.live; grants = released f.grants t }) o f) t) there
     ∙ cond-true (is_epoch t.epoch f.epoch) (numbered t.n (remove_entry (is_at (nat_cmp t.n)) f.live)) None (found_live f t y there).0
@@ -203,3 +206,48 @@ abort_changes m r f t x y c is there now =
       rising = subst (λ (h : Fronted). IsStrictlySortedBy nat_cmp (keys_of h.live)) (sym shape) (rising_removed t.n f.live is.rising);
       recorded = λ z at. absurd (none-some z (sym none ∙ at));
     })
+
+-- ---- what the log knows of it
+
+-- what begins isn't in the log yet
+pub begin_logged : (w : Whole) (f : Fronted) → IsLoggedBy w f → IsLoggedBy w (front.begun f)
+begin_logged w f is = record {
+  begun = λ u g there. elim (cases_Bool (is_txn (txn_at f (f.begins + 1)) u)) [
+    | inl same ↦ let here : u.n ≡ f.begins + 1 = ap (λ (k : TxnId). k.n) (sym (is_txn-true (txn_at f (f.begins + 1)) u same)) in omega (arith, here)
+    | inr other ↦ let most = is.begun u g (sym (going_of-begun_other f u other) ∙ there) in omega (arith, most)
+  ];
+  each = λ u g there. elim (cases_Bool (is_txn (txn_at f (f.begins + 1)) u)) [
+    | inl same ↦
+        let t = txn_at f (f.begins + 1) in
+        let here : t ≡ u = is_txn-true t u same in
+        let new : Going = record { last = record { 0 = 0 }; ops = [] } in
+        let own : new ≡ g = same_Some new g (sym (going_of-begun f) ∙ ap (going_of (front.begun f)) here ∙ there) in
+        let none : with_txn t (transactions_of w) ≡ None = unknown t (with_txn t (transactions_of w)) refl refl refl in
+        subst (λ (x : Going). IsKnownAs x (with_txn u (transactions_of w))) own (subst (λ (k : TxnId). IsKnownAs new (with_txn k (transactions_of w))) here (subst (IsKnownAs new) (sym none) (refl, refl)))
+    | inr other ↦ is.each u g (sym (going_of-begun_other f u other) ∙ there)
+  ];
+  counted = λ u k there epoch. let most = is.counted u k there epoch in omega (arith, most);
+}
+  where
+    unknown : (t : TxnId) (o : Option Known) → with_txn t (transactions_of w) ≡ o → t.epoch ≡ f.epoch → t.n ≡ f.begins + 1 → o ≡ None
+    unknown t None e epoch n = refl
+    unknown t (Some k) e epoch n = let most = is.counted t k e epoch in absurd (omega (arith, most, n))
+
+-- one that is aborted goes on no more
+pub abort_logged : (w : Whole) (f : Fronted) (t : TxnId) (y : Going) → IsStrictlySortedBy nat_cmp (keys_of f.live) → going_of f t ≡ Some y → IsLoggedBy w f → IsLoggedBy w (front.ended f t)
+abort_logged w f t y rising there is =
+    let g = front.ended f t in
+    let shape : g ≡ record f { live = remove_entry (is_at (nat_cmp t.n)) f.live; grants = released f.grants t } =
+    ap (λ (o : Option Going). option_map_or (λ (z : Going). record f { live = remove_entry (is_at (nat_cmp t.n)) f.live; grants = released f.grants t }) o f) there in
+    let none = ended_none f t y rising there in
+    record {
+      begun = λ u z at. elim (cases_Bool (is_txn t u)) [
+        | inl same ↦ absurd (none-some z (sym none ∙ ap (going_of g) (is_txn-true t u same) ∙ at))
+        | inr other ↦ let most = is.begun u z (sym (going_of-ended_other f t u other) ∙ at) in let begins : g.begins ≡ f.begins = ap (λ (h : Fronted). h.begins) shape in omega (arith, most, begins)
+      ];
+      each = λ u z at. elim (cases_Bool (is_txn t u)) [
+        | inl same ↦ absurd (none-some z (sym none ∙ ap (going_of g) (is_txn-true t u same) ∙ at))
+        | inr other ↦ is.each u z (sym (going_of-ended_other f t u other) ∙ at)
+      ];
+      counted = λ u k known epoch. let most = is.counted u k known (epoch ∙ ap (λ (h : Fronted). h.epoch) shape) in let begins : g.begins ≡ f.begins = ap (λ (h : Fronted). h.begins) shape in omega (arith, most, begins);
+    }

@@ -1,5 +1,5 @@
 -- An inspection tells what its replica shows.
-use Rattle.std.proofs.Common.{◌≡◌, ◌∙◌, ℕ, true, List, [], ◌∷◌, length, map, set, None, refl, sym, ap, subst, inl, inr, append-nil}
+use Rattle.std.proofs.Common.{◌≡◌, ◌∙◌, ℕ, true, List, [], ◌∷◌, ◌++◌, length, map, set, None, refl, sym, ap, subst, inl, inr, append-nil}
 use Rattle.std.specs.Prelude.{Contains}
 use Rattle.txn_table.specs.Whole.{Whole}
 use Rattle.events.specs.declared.event.Event.{Event}
@@ -22,7 +22,7 @@ use Rattle.fleet_run.specs.Laws.{EventsKeepSound}
 use Rattle.fleet_rows.specs.Laws.{InspectionsAreServed}
 use Rattle.fleet_rows.proofs.Keeping.{Done, Shows, at_each_in}
 use Rattle.fleet_rows.proofs.Serving.{serves, shows_as, holds_there}
-use Rattle.fleet_rows.proofs.QuietSteps.{one_step, sees, open_is_open, inside}
+use Rattle.fleet_rows.proofs.QuietSteps.{quiet_from, one_step, sees, open_is_open, inside}
 
 -- ---- a step that leaves the replica as it was
 
@@ -71,7 +71,7 @@ inspect_all m r k rows own told holds =
 inspect_shows : (r : ℕ) (s t : FleetState) (lines : List Observation) → Served s → Done s (Inspect r) lines t → Shows s (Inspect r) lines t
 inspect_shows r s t lines v d =
     let m = s.machine in
-    let k = one_step s t (Inspect r) r steps.Inspect [] lines d (plan_inspect s r) refl (λ o up. record { looks = (v.sound.standing r o up).settled; view = refl }) in
+    let k = one_step s t (Inspect r) r steps.Inspect [] lines d (plan_inspect s r) refl (λ o up. quiet_from o steps.Inspect (v.sound.standing r o up).settled refl) in
     let o = k.replica in
     let up = k.up in
     let rows = rows_of (contents_of o) in
@@ -82,7 +82,8 @@ inspect_shows r s t lines v d =
     elim k.went [
       | inl fine ↦
           shows_as s t (record { machine = m; replicas = set s.replicas r (Open o) }) (Inspect r) lines own (fine.lines_are ∙ append-nil own)
-          (fine.ends ∙ ap (λ (ls : List Observation). let u : FleetState = record { machine = (behind (opened m (Inspect r)) ls).machine; replicas = set s.replicas r (Open o) } in u) (append-nil own) ∙ ap (λ (n : Machine). let u : FleetState = record { machine = n; replicas = set s.replicas r (Open o) } in u) all.1)
+          (fine.ends ∙ ap (λ (x : OpenReplica). let u : FleetState = record { machine = (behind (opened m (Inspect r)) (own ++ [])).machine; replicas = set s.replicas r (Open x) } in u) (v.sound.standing r o up).settled
+          ∙ ap (λ (ls : List Observation). let u : FleetState = record { machine = (behind (opened m (Inspect r)) ls).machine; replicas = set s.replicas r (Open o) } in u) (append-nil own) ∙ ap (λ (n : Machine). let u : FleetState = record { machine = n; replicas = set s.replicas r (Open o) } in u) all.1)
           (same_shows s r o (Inspect r) own v up all.0)
       | inr failed ↦ absurd (failed.logs refl)
     ]

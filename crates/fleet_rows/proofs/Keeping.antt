@@ -179,6 +179,7 @@ primary_elsewhere q m n o l e p = record {
   begins = p.begins;
   front_epoch = p.front_epoch;
   front = front_elsewhere q m n o.front e p.front;
+  logged = p.logged;
   requests = requests_stay q m n l.epoch (commits_of o.disk) e.stays p.requests;
   guard = guard_by q m n o l l.active e p.guard;
 }

@@ -13,3 +13,10 @@ pub mod FrontSteps
 pub mod QuietCalls
 pub mod PrimaryCalls
 pub mod CallLaws
+pub mod LogRecords
+pub mod Reaching
+pub mod OperationLogs
+pub mod OperationFronts
+pub mod OperationCalls
+pub mod LoggedCalls
+pub mod AbortCalls

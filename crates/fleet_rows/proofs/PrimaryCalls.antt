@@ -49,14 +49,14 @@ use Rattle.replica_model.specs.Steps.{written, step_answer, front_behind}
 use Rattle.fleet_laws.proofs.Puts.{first_member}
 use Rattle.fleet_run.specs.Scenes.{FleetReplica, FleetState, replica_at, held_by}
 use Rattle.fleet_run.specs.Scenes.FleetReplica.{Open}
-use Rattle.fleet_rows.specs.Served.{Served, IsOpenOf, IsPrimaryOf, IsFrontOf}
+use Rattle.fleet_rows.specs.Served.{Served, IsOpenOf, IsPrimaryOf, IsFrontOf, IsLoggedBy}
 use Rattle.fleet_rows.proofs.Keeping.{replica_elsewhere}
 use Rattle.fleet_rows.proofs.QuietSteps.{sees}
-use Rattle.fleet_rows.proofs.FrontSteps.{looked_front, told_same, begin_changes, locks_changes, abort_changes}
+use Rattle.fleet_rows.proofs.FrontSteps.{begin_logged, abort_logged, looked_front, told_same, begin_changes, locks_changes, abort_changes}
 
 -- ---- one transaction in both
 
-known_going : (m : Machine) (r : ℕ) (f : Fronted) (t : TxnId) (x : Txn) → IsFrontOf m r f → live_txn m r t ≡ Some x → (y : Going) × (going_of f t ≡ Some y) × (y.ops ≡ ops_of x)
+pub known_going : (m : Machine) (r : ℕ) (f : Fronted) (t : TxnId) (x : Txn) → IsFrontOf m r f → live_txn m r t ≡ Some x → (y : Going) × (going_of f t ≡ Some y) × (y.ops ≡ ops_of x)
 known_going m r f t x is live = by (going_of f t) refl
   where
     by : (o : Option Going) → going_of f t ≡ o → (y : Going) × (going_of f t ≡ Some y) × (y.ops ≡ ops_of x)
@@ -79,10 +79,10 @@ asking_none m r (OnKey u name key call) t named none = ap (λ (k : Option Txn). 
 asking_none m r (Commit u) t named none = ap (λ (k : Option Txn). option_map_or (λ x. put_txn m u (record x { live = false; asked = true })) k m) (ap (going_at m r) (same_Some u t named) ∙ none)
 asking_none m r (Abort u) t named none = ap (λ (k : Option Txn). option_map_or (λ x. put_txn (put_grants m r (released (grants_of m r) u)) u (record x { live = false })) k m) (ap (going_at m r) (same_Some u t named) ∙ none)
 
-noted_after : (m : Machine) (r : ℕ) (call : Call) (told : Reply) (t : TxnId) → txn_named call ≡ Some t → after_call m r call told ≡ noted (asking m r call) t (note_of call told)
+pub noted_after : (m : Machine) (r : ℕ) (call : Call) (told : Reply) (t : TxnId) → txn_named call ≡ Some t → after_call m r call told ≡ noted (asking m r call) t (note_of call told)
 noted_after m r call told t named = ap (λ (k : Option TxnId). option_map_or (λ u. noted (asking m r call) u (note_of call told)) k (begun_by (asking m r call) r told.answer)) named
 
-noted_at : (m : Machine) (t : TxnId) (x : Txn) (c : CallRecord) → txn_of m t ≡ Some x → noted m t c ≡ put_txn m t (with_call x c)
+pub noted_at : (m : Machine) (t : TxnId) (x : Txn) (c : CallRecord) → txn_of m t ≡ Some x → noted m t c ≡ put_txn m t (with_call x c)
 noted_at m t x c known = ap (λ (k : Option Txn). option_map_or (λ y. put_txn m t (with_call y c)) k m) known
 
 noted_elsewhere : (r : ℕ) (m : Machine) (t : TxnId) (call : Call) → Elsewhere r m (noted m t (note_of call (plain (answers.Ended t))))
@@ -92,7 +92,7 @@ noted_elsewhere r m t call = by (txn_of m t) refl
     by None e = record { same = refl; orders = refl; stays = HomeStays-itself r m.txns }
     by (Some x) e = quiet_elsewhere r m t x (note_of call (plain (answers.Ended t))) e (record { passed = refl; unlogged = refl })
 
-granted_now : (m : Machine) (r : ℕ) (gs : List Grant) → r < length m.replicas → replica (put_grants m r gs) r ≡ record (replica m r) { grants = gs }
+pub granted_now : (m : Machine) (r : ℕ) (gs : List Grant) → r < length m.replicas → replica (put_grants m r gs) r ≡ record (replica m r) { grants = gs }
 granted_now m r gs lt = get_or-set_same m.replicas r (record (replica m r) { grants = gs }) never_opened lt
 
 -- ---- what is behind a call
@@ -109,14 +109,14 @@ behind_none o (Commit u) t named none unlogged = ap (λ (k : Option Going). opti
 behind_none o (Abort u) t named none unlogged =
     ap (λ (k : Option Going). option_map_or (λ (g : Going). record o.front { live = remove_entry (is_at (nat_cmp u.n)) o.front.live; grants = released o.front.grants u }) k o.front) (ap (going_of o.front) (same_Some u t named) ∙ none)
 
-module _ (s : FleetState) (v : Served s) (r : ℕ) (call : Call) (told : Reply) (is : answer s.machine r call ≡ Some told) (o : OpenReplica) (up : replica_at s.replicas r ≡ Open o) (l : Leading) (lead : o.leading ≡ Some l) (active : l.active ≡ true) (here : IsOpenOf s.machine r o) (p : IsPrimaryOf s.machine r o l) (lt : r < length s.machine.replicas) (unlogged_op : told.op ≡ None) where
-  on : replicas.is_active o ≡ true
+module _ (s : FleetState) (v : Served s) (r : ℕ) (call : Call) (told : Reply) (is : answer s.machine r call ≡ Some told) (o : OpenReplica) (up : replica_at s.replicas r ≡ Open o) (l : Leading) (lead : o.leading ≡ Some l) (active : l.active ≡ true) (here : IsOpenOf s.machine r o) (p : IsPrimaryOf s.machine r o l) (lt : r < length s.machine.replicas) where
+  pub on : replicas.is_active o ≡ true
   on = ap (λ (x : Option Leading). option_map_or (λ (y : Leading). y.active) x false) lead ∙ active
 
   on_too : is_active s.machine r ≡ true
   on_too = active_same s.machine r o here ∙ on
 
-  served_told : served s.machine r call ≡ Some told
+  pub served_told : served s.machine r call ≡ Some told
   served_told =
       sym (ap (λ (b : Bool). cond (not b) (Some (plain (answers.Down r))) (cond (not (is_active s.machine r)) (Some (plain (answers.NotActive r))) (served s.machine r call))) here.up ∙ ap (λ (b : Bool). cond (not b) (Some (plain (answers.NotActive r))) (served s.machine r call)) on_too)
       ∙ is
@@ -124,21 +124,21 @@ module _ (s : FleetState) (v : Served s) (r : ℕ) (call : Call) (told : Reply) 
   start : o.disk.start ≡ no_base
   start = (v.sound.kept r o.disk (subst (λ (x : FleetReplica). Contains (held_by x) o.disk) (sym up) (first_member o.disk []))).start
 
-  saw : state_at (order_of s.machine r) (replica s.machine r).show ≡ contents_of o
+  pub saw : state_at (order_of s.machine r) (replica s.machine r).show ≡ contents_of o
   saw = sees s.machine r o start here
 
-  next_same : next_txn (role_of s.machine r) ≡ txn_at o.front (o.front.begins + 1)
+  pub next_same : next_txn (role_of s.machine r) ≡ txn_at o.front (o.front.begins + 1)
   next_same =
       ap next_txn p.has
       ∙ ap (λ (e : Epoch). let t : TxnId = record { epoch = e; n = p.role.begins + 1 } in t) (p.epoch ∙ sym p.front_epoch)
       ∙ ap (λ (n : ℕ). let t : TxnId = record { epoch = o.front.epoch; n = n + 1 } in t) p.begins
 
-  replied_told : reply o call ≡ Some told
+  pub replied_told : reply o call ≡ Some told
   replied_told =
       ap (λ (b : Bool). cond b (front.told o.front (contents_of o) call) (Some (plain (answers.NotActive o.id)))) on
       ∙ told_same s.machine r o.front (contents_of o) call p.front saw next_same ∙ served_told
 
-  settled : looked o ≡ o
+  pub settled : looked o ≡ o
   settled = (v.sound.standing r o up).settled
 
   leaves : (g : Fronted) → logged_by o call ≡ [] → front_behind o call ≡ g → IsOpenOf (after_call s.machine r call told) r (record o { front = g }) → Leaves s.machine r call told o (record o { front = g })
@@ -153,9 +153,9 @@ module _ (s : FleetState) (v : Served s) (r : ℕ) (call : Call) (told : Reply) 
   }
 
   -- the primary, over a machine in which its role is as it was
-  same_role : (g : Fronted) → g.begins ≡ o.front.begins → g.epoch ≡ o.front.epoch → role_of (after_call s.machine r call told) r ≡ role_of s.machine r → IsFrontOf (after_call s.machine r call told) r g → IsOpenOf (after_call s.machine r call told) r (record o { front = g })
-  same_role g begins epoch role fronts =
-      open_now s v r call told is o l lead active here p lt g (primary_now s v r call told is o l lead active here p lt g p.role (role ∙ p.has) p.epoch p.active (p.begins ∙ sym begins) (epoch ∙ p.front_epoch) fronts)
+  same_role : (g : Fronted) → g.begins ≡ o.front.begins → g.epoch ≡ o.front.epoch → role_of (after_call s.machine r call told) r ≡ role_of s.machine r → IsFrontOf (after_call s.machine r call told) r g → IsLoggedBy o.disk g → IsOpenOf (after_call s.machine r call told) r (record o { front = g })
+  same_role g begins epoch role fronts logged =
+      open_now s v r call told is o l lead active here p lt g (primary_now s v r call told is o l lead active here p lt g p.role (role ∙ p.has) p.epoch p.active (p.begins ∙ sym begins) (epoch ∙ p.front_epoch) fronts logged)
 
   -- ---- a begin
 
@@ -172,21 +172,21 @@ module _ (s : FleetState) (v : Served s) (r : ℕ) (call : Call) (told : Reply) 
       let fronts : IsFrontOf (after_call m r call told) r (front.begun f) = subst (λ (k : Machine). IsFrontOf k r (front.begun f)) (sym now_is) (begin_changes m (begun m r t) r f p.front (ap (λ (y : Replica). y.grants) put_is) refl) in
       leaves (front.begun f) (ap (logged_by o) same) (ap (front_behind o) same)
       (open_now s v r call told is o l lead active here p lt (front.begun f)
-      (primary_now s v r call told is o l lead active here p lt (front.begun f) (one_more_begun p.role) has p.epoch p.active (ap (λ (n : ℕ). n + 1) p.begins) p.front_epoch fronts))
+      (primary_now s v r call told is o l lead active here p lt (front.begun f) (one_more_begun p.role) has p.epoch p.active (ap (λ (n : ℕ). n + 1) p.begins) p.front_epoch fronts (begin_logged o.disk f p.logged)))
 
   -- ---- a transaction that doesn't go on
 
   module _ (t : TxnId) (named : txn_named call ≡ Some t) where
-    live_is : (x : Option Txn) → going_at s.machine r t ≡ x → live_txn s.machine r t ≡ x
+    pub live_is : (x : Option Txn) → going_at s.machine r t ≡ x → live_txn s.machine r t ≡ x
     live_is x e = sym (ap (λ (b : Bool). cond b (live_txn s.machine r t) None) on_too) ∙ e
 
-    served_by : (x : Option Txn) → live_txn s.machine r t ≡ x → option_map_or (λ (y : Txn). live_reply (grants_of s.machine r) (seen s.machine r y) t call) x (Some (plain (answers.Ended t))) ≡ Some told
+    pub served_by : (x : Option Txn) → live_txn s.machine r t ≡ x → option_map_or (λ (y : Txn). live_reply (grants_of s.machine r) (seen s.machine r y) t call) x (Some (plain (answers.Ended t))) ≡ Some told
     served_by x e =
         sym (ap (λ (k : Option TxnId). option_map_or (λ u. option_map_or (λ y. live_reply (grants_of s.machine r) (seen s.machine r y) u call) (live_txn s.machine r u) (Some (plain (answers.Ended u)))) k (Some (plain (answers.Txn (next_txn (role_of s.machine r)))))) named
         ∙ ap (λ (k : Option Txn). option_map_or (λ (y : Txn). live_reply (grants_of s.machine r) (seen s.machine r y) t call) k (Some (plain (answers.Ended t)))) e)
         ∙ served_told
 
-    logged_named : (y : Option Going) → going_of o.front t ≡ y → logged_by o call ≡ option_map_or (λ (g : Going). logged_call (last_lsn o) t g call (reply o call)) y []
+    pub logged_named : (y : Option Going) → going_of o.front t ≡ y → logged_by o call ≡ option_map_or (λ (g : Going). logged_call (last_lsn o) t g call (reply o call)) y []
     logged_named y e =
         ap (λ (k : Option TxnId). option_map_or (λ u. option_map_or (λ (g : Going). logged_call (last_lsn o) u g call (reply o call)) (going_in o u) []) k []) named
         ∙ ap (λ (b : Bool). option_map_or (λ (g : Going). logged_call (last_lsn o) t g call (reply o call)) (cond b (going_of o.front t) None) []) on
@@ -206,41 +206,41 @@ module _ (s : FleetState) (v : Served s) (r : ℕ) (call : Call) (told : Reply) 
     -- ---- a call of a live one
 
     module _ (x : Txn) (going : going_at s.machine r t ≡ Some x) where
-      at : LiveAt s.machine r t x
+      pub at : LiveAt s.machine r t x
       at = live_at s.machine r t x going
 
-      there : (y : Going) × (going_of o.front t ≡ Some y) × (y.ops ≡ ops_of x)
+      pub there : (y : Going) × (going_of o.front t ≡ Some y) × (y.ops ≡ ops_of x)
       there = known_going s.machine r o.front t x p.front (live_is (Some x) going)
 
       saw_own : seen s.machine r x ≡ folded (contents_of o) there.0.ops
       saw_own = ap (λ (z : State). folded z (ops_of x)) saw ∙ ap (λ (ops : List Op). folded (contents_of o) ops) (sym there.2)
 
-      abbrev gs : List Grant
+      abbrev pub gs : List Grant
       gs = taken (grants_of s.machine r) t (locks_at (seen s.machine r x) call)
 
-      abbrev hs : List Grant
+      abbrev pub hs : List Grant
       hs = taken o.front.grants t (locks_at (folded (contents_of o) there.0.ops) call)
 
-      alike_now : Alike gs hs
+      pub alike_now : Alike gs hs
       alike_now =
           subst (λ (z : State). Alike gs (taken o.front.grants t (locks_at z call))) saw_own
           (Alike-taken (grants_of s.machine r) o.front.grants p.front.grants t (locks_at (seen s.machine r x) call))
 
-      live_front : live_reply o.front.grants (folded (contents_of o) there.0.ops) t call ≡ Some told
+      pub live_front : live_reply o.front.grants (folded (contents_of o) there.0.ops) t call ≡ Some told
       live_front =
           sym (told_live o.front (contents_of o) call t there.0 named there.1)
           ∙ told_same s.machine r o.front (contents_of o) call p.front saw next_same ∙ served_told
 
-      called_is : front.called o.front (contents_of o) call ≡ record o.front { grants = hs }
-      called_is =
+      called_is : told.op ≡ None → front.called o.front (contents_of o) call ≡ record o.front { grants = hs }
+      called_is unlogged_op =
           called_live o.front (contents_of o) call t there.0 named there.1
           ∙ ap (λ (k : Option Reply). front.operated t.n there.0 (option_and_then (λ (z : Reply). z.op) k) (record o.front { grants = hs })) live_front
           ∙ ap (λ (k : Option Op). front.operated t.n there.0 k (record o.front { grants = hs })) unlogged_op
 
       -- it asks for locks
-      locks_leaves : asking s.machine r call ≡ asking_locks s.machine r t call → logged_call (last_lsn o) t there.0 call (reply o call) ≡ logged_op (last_lsn o) t there.0 (option_and_then (λ (z : Reply). z.op) (reply o call))
+      locks_leaves : told.op ≡ None → asking s.machine r call ≡ asking_locks s.machine r t call → logged_call (last_lsn o) t there.0 call (reply o call) ≡ logged_op (last_lsn o) t there.0 (option_and_then (λ (z : Reply). z.op) (reply o call))
           → front_behind o call ≡ steps_of.noted (length (logged_by o call)) call (record { 0 = (last_lsn o).0 + length (logged_by o call) }) (front.called o.front (contents_of o) call) → Leaves s.machine r call told o (record o { front = record o.front { grants = hs } })
-      locks_leaves asks logs behind_is =
+      locks_leaves unlogged_op asks logs behind_is =
           let c = note_of call told in
           let n : Machine = put_txn (put_grants s.machine r gs) t (with_call x c) in
           let unlogged : logged_by o call ≡ [] =
@@ -251,10 +251,11 @@ module _ (s : FleetState) (v : Served s) (r : ℕ) (call : Call) (told : Reply) 
           ∙ ap (λ (k : Machine). noted k t c) (asks ∙ ap (λ (k : Option Txn). option_map_or (λ y. put_grants s.machine r (taken (grants_of s.machine r) t (locks_at (seen s.machine r y) call))) k s.machine) going)
           ∙ noted_at (put_grants s.machine r gs) t x c at.known in
           leaves (record o.front { grants = hs }) unlogged
-          (behind_is ∙ ap (λ (bodies : List Record). steps_of.noted (length bodies) call (record { 0 = (last_lsn o).0 + length bodies }) (front.called o.front (contents_of o) call)) unlogged ∙ called_is)
+          (behind_is ∙ ap (λ (bodies : List Record). steps_of.noted (length bodies) call (record { 0 = (last_lsn o).0 + length bodies }) (front.called o.front (contents_of o) call)) unlogged ∙ called_is unlogged_op)
           (same_role (record o.front { grants = hs }) refl refl (ap (λ (k : Machine). role_of k r) now_is ∙ ap (λ (y : Replica). y.role) (granted_now s.machine r gs lt))
           (subst (λ (k : Machine). IsFrontOf k r (record o.front { grants = hs })) (sym now_is)
-          (locks_changes s.machine r o.front t x c gs hs p.front at.known at.live at.home unlogged_op alike_now (ap (λ (y : Replica). y.grants) (granted_now s.machine r gs lt)))))
+          (locks_changes s.machine r o.front t x c gs hs p.front at.known at.live at.home unlogged_op alike_now (ap (λ (y : Replica). y.grants) (granted_now s.machine r gs lt))))
+          (record { begun = p.logged.begun; each = p.logged.each; counted = p.logged.counted }))
 
       -- it is aborted, and has logged nothing
       abort_leaves : call ≡ Abort t → logs s.machine call (Some told) ≡ false → Leaves s.machine r call told o (record o { front = front.ended o.front t })
@@ -284,7 +285,8 @@ module _ (s : FleetState) (v : Served s) (r : ℕ) (call : Call) (told : Reply) 
           ap (λ (o : Option Going). option_map_or (λ (z : Going). record f { live = remove_entry (is_at (nat_cmp t.n)) f.live; grants = released f.grants t }) o f) there.1 in
           leaves (front.ended f t) unlogged (ap (front_behind o) same)
           (same_role (front.ended f t) (ap (λ (h : Fronted). h.begins) shape) (ap (λ (h : Fronted). h.epoch) shape) (ap (λ (k : Machine). role_of k r) now_is ∙ ap (λ (z : Replica). z.role) (granted_now m r gone lt))
-          (subst (λ (k : Machine). IsFrontOf k r (front.ended f t)) (sym now_is) (abort_changes m r f t x y c p.front there.1 (ap (λ (z : Replica). z.grants) (granted_now m r gone lt)))))
+          (subst (λ (k : Machine). IsFrontOf k r (front.ended f t)) (sym now_is) (abort_changes m r f t x y c p.front there.1 (ap (λ (z : Replica). z.grants) (granted_now m r gone lt))))
+          (abort_logged o.disk f t y p.front.rising there.1 p.logged))
         where
           not_false : (b : Bool) → not b ≡ false → b ≡ true
           not_false true e = refl
@@ -298,24 +300,24 @@ module _ (s : FleetState) (v : Served s) (r : ℕ) (call : Call) (told : Reply) 
 
 pub active_leaves : (s : FleetState) (v : Served s) (r : ℕ) (call : Call) (told : Reply) (is : answer s.machine r call ≡ Some told) (o : OpenReplica) (up : replica_at s.replicas r ≡ Open o) (l : Leading) (lead : o.leading ≡ Some l) (active : l.active ≡ true)
     (here : IsOpenOf s.machine r o) (p : IsPrimaryOf s.machine r o l) (lt : r < length s.machine.replicas) (op : told.op ≡ None) → logs s.machine call (Some told) ≡ false → (x : OpenReplica) × Leaves s.machine r call told o x
-active_leaves s v r Begin told is o up l lead active here p lt op quiet = (record o { front = front.begun o.front }, begin_leaves s v r Begin told is o up l lead active here p lt op refl)
+active_leaves s v r Begin told is o up l lead active here p lt op quiet = (record o { front = front.begun o.front }, begin_leaves s v r Begin told is o up l lead active here p lt refl)
 active_leaves s v r (Make t name kind) told is o up l lead active here p lt op quiet = by (going_at s.machine r t) refl
   where
     by : (k : Option Txn) → going_at s.machine r t ≡ k → (x : OpenReplica) × Leaves s.machine r (Make t name kind) told o x
-    by None e = (record o { front = o.front }, ended_leaves s v r (Make t name kind) told is o up l lead active here p lt op t refl e)
-    by (Some x) e = (_, locks_leaves s v r (Make t name kind) told is o up l lead active here p lt op t refl x e refl refl refl)
+    by None e = (record o { front = o.front }, ended_leaves s v r (Make t name kind) told is o up l lead active here p lt t refl e)
+    by (Some x) e = (_, locks_leaves s v r (Make t name kind) told is o up l lead active here p lt t refl x e op refl refl refl)
 active_leaves s v r (OnKey t name key asked) told is o up l lead active here p lt op quiet = by (going_at s.machine r t) refl
   where
     by : (k : Option Txn) → going_at s.machine r t ≡ k → (x : OpenReplica) × Leaves s.machine r (OnKey t name key asked) told o x
-    by None e = (record o { front = o.front }, ended_leaves s v r (OnKey t name key asked) told is o up l lead active here p lt op t refl e)
-    by (Some x) e = (_, locks_leaves s v r (OnKey t name key asked) told is o up l lead active here p lt op t refl x e refl refl refl)
+    by None e = (record o { front = o.front }, ended_leaves s v r (OnKey t name key asked) told is o up l lead active here p lt t refl e)
+    by (Some x) e = (_, locks_leaves s v r (OnKey t name key asked) told is o up l lead active here p lt t refl x e op refl refl refl)
 active_leaves s v r (Commit t) told is o up l lead active here p lt op quiet = by (going_at s.machine r t) refl
   where
     by : (k : Option Txn) → going_at s.machine r t ≡ k → (x : OpenReplica) × Leaves s.machine r (Commit t) told o x
-    by None e = (record o { front = o.front }, ended_leaves s v r (Commit t) told is o up l lead active here p lt op t refl e)
-    by (Some x) e = commit_answered s v r (Commit t) told is o up l lead active here p lt op t refl x e refl
+    by None e = (record o { front = o.front }, ended_leaves s v r (Commit t) told is o up l lead active here p lt t refl e)
+    by (Some x) e = commit_answered s v r (Commit t) told is o up l lead active here p lt t refl x e refl
 active_leaves s v r (Abort t) told is o up l lead active here p lt op quiet = by (going_at s.machine r t) refl
   where
     by : (k : Option Txn) → going_at s.machine r t ≡ k → (x : OpenReplica) × Leaves s.machine r (Abort t) told o x
-    by None e = (record o { front = o.front }, ended_leaves s v r (Abort t) told is o up l lead active here p lt op t refl e)
-    by (Some x) e = (record o { front = front.ended o.front t }, abort_leaves s v r (Abort t) told is o up l lead active here p lt op t refl x e refl quiet)
+    by None e = (record o { front = o.front }, ended_leaves s v r (Abort t) told is o up l lead active here p lt t refl e)
+    by (Some x) e = (record o { front = front.ended o.front t }, abort_leaves s v r (Abort t) told is o up l lead active here p lt t refl x e refl quiet)

@@ -42,7 +42,7 @@ use Rattle.fleet_run.specs.Scenes.{FleetReplica, FleetState, replica_at, held_by
 use Rattle.fleet_run.specs.Scenes.FleetReplica.{Open, Closed}
 use Rattle.fleet_run.specs.Acts.Act.{Takes, Says}
 use Rattle.fleet_run.specs.Plans.{plan, is_open}
-use Rattle.fleet_rows.specs.Served.{Served, IsReplicaOf, IsOpenOf, IsBystander, IsPrimaryOf, IsFrontOf, IsWaiting, commits_of}
+use Rattle.fleet_rows.specs.Served.{Served, IsReplicaOf, IsOpenOf, IsBystander, IsPrimaryOf, IsFrontOf, IsLoggedBy, IsWaiting, commits_of}
 use Rattle.fleet_rows.proofs.Keeping.{Shows, log_kept, logs_after, replica_elsewhere, at_each_in, numbered_there}
 use Rattle.fleet_rows.proofs.Serving.{holds_there}
 use Rattle.fleet_rows.proofs.QuietSteps.{inside}
@@ -127,8 +127,8 @@ module _ (s : FleetState) (v : Served s) (r : ℕ) (call : Call) (told : Reply) 
     guard = subst (λ (b : Bool). MatchBool b (ReplicaGuard s.machine r (unshown_commits o)) (IsWaiting s.machine r o l)) active p.guard
 
     -- the primary with another front, over the machine with another role
-    pub primary_now : (f : Fronted) (role : Role) → role_of now r ≡ Some role → role.epoch ≡ l.epoch → role.active ≡ l.active → role.begins ≡ f.begins → f.epoch ≡ l.epoch → IsFrontOf now r f → IsPrimaryOf now r (over f) l
-    primary_now f role has epoch is_active begins front_epoch fronts = record {
+    pub primary_now : (f : Fronted) (role : Role) → role_of now r ≡ Some role → role.epoch ≡ l.epoch → role.active ≡ l.active → role.begins ≡ f.begins → f.epoch ≡ l.epoch → IsFrontOf now r f → IsLoggedBy o.disk f → IsPrimaryOf now r (over f) l
+    primary_now f role has epoch is_active begins front_epoch fronts logged = record {
       role = role;
       has = has;
       epoch = epoch;
@@ -136,6 +136,7 @@ module _ (s : FleetState) (v : Served s) (r : ℕ) (call : Call) (told : Reply) 
       begins = begins;
       front_epoch = front_epoch;
       front = fronts;
+      logged = logged;
       requests = calls_keep_requests s.machine r call told numbering is r l.epoch (commits_of o.disk) p.requests;
       guard = subst (λ (b : Bool). MatchBool b (ReplicaGuard now r (unshown_commits (over f))) (IsWaiting now r (over f) l)) (sym active) (calls_keep_guards s.machine r call told numbering is r (unshown_commits o) guard);
     }

@@ -42,7 +42,7 @@ drop_none : {A : Type 0} (n : ℕ) → drop {A = A} n [] ≡ []
 drop_none zero = refl
 drop_none (suc n) = refl
 
-drop_all : {A : Type 0} (xs : List A) → drop (length xs) xs ≡ []
+pub drop_all : {A : Type 0} (xs : List A) → drop (length xs) xs ≡ []
 drop_all [] = refl
 drop_all (x ∷ xs) = drop_all xs
 
@@ -56,55 +56,69 @@ never_both : (b : Bool) → (b && not b) ≡ false
 never_both true = refl
 never_both false = refl
 
-none_acknowledged : (x : OpenReplica) (l : Option Leading) → option_map_or (λ (l : Leading). txns_of l.epoch (newly_shown x x)) l [] ≡ []
-none_acknowledged x None = refl
-none_acknowledged x (Some l) = ap (λ (cs : List Committed). txns_of l.epoch cs) (drop_all (shown_commits x))
-
-same_told : (m : Machine) (o x : OpenReplica) (answer : Option Answer) → order_lines m o (outcome_of answer x x).commits ≡ []
-same_told m o x answer = ap (λ (cs : List Committed). map order_line (drop (length_of (order_of m o.id) - view_of o) cs)) (drop_all (shown_commits x)) ∙ ap (map order_line) (drop_none (length_of (order_of m o.id) - view_of o))
-
-same_view : (o x : OpenReplica) (answer : Option Answer) → view_of x ≡ view_of o → view_line o (outcome_of answer x x) ≡ []
-same_view o x answer same =
-    ap (λ (n : ℕ). cond (nat_lt (view_of o) n) (says.View o.id n ∷ []) []) same
-    ∙ ap (λ (b : Bool). cond b (says.View o.id (view_of o) ∷ []) []) (no_less (view_of o))
-
--- The step leaves what it wrote, and that shows as much as before.
+-- The replica comes to show no more by looking: no commit, and it is active as before.
 pub record IsQuiet (o : OpenReplica) (step : StepEvent) : Type 0 where
-  pub looks : looked (written o step) ≡ written o step
-  pub view : view_of (written o step) ≡ view_of o
+  pub wrote : view_of (written o step) ≡ view_of o
+  pub none : newly_shown (written o step) (looked (written o step)) ≡ []
+  pub view : view_of (looked (written o step)) ≡ view_of o
+  pub active : is_active (looked (written o step)) ≡ is_active (written o step)
 
-pub quiet_result : (o : OpenReplica) (step : StepEvent) → IsQuiet o step → step_result o step ≡ written o step
+-- so it is where the step leaves what it wrote, and that shows as much as before
+pub quiet_from : (o : OpenReplica) (step : StepEvent) → looked (written o step) ≡ written o step → view_of (written o step) ≡ view_of o → IsQuiet o step
+quiet_from o step looks view = record {
+  wrote = view;
+  none = ap (λ (x : OpenReplica). newly_shown (written o step) x) looks ∙ drop_all (shown_commits (written o step));
+  view = ap (λ (x : OpenReplica). view_of x) looks ∙ view;
+  active = ap (λ (x : OpenReplica). is_active x) looks;
+}
+
+pub result_is : (o : OpenReplica) (step : StepEvent) → step_result o step ≡ looked (written o step)
 unfolding step_result
-quiet_result o step q = q.looks
+result_is o step = refl
 
-quiet_outcome : (o : OpenReplica) (step : StepEvent) → IsQuiet o step → step_outcome o step ≡ outcome_of (step_answer o step) (written o step) (written o step)
+acknowledged_none : (x : OpenReplica) (l : Option Leading) (y : OpenReplica) → newly_shown x y ≡ [] → option_map_or (λ (l : Leading). txns_of l.epoch (newly_shown x y)) l [] ≡ []
+acknowledged_none x None y none = refl
+acknowledged_none x (Some l) y none = ap (λ (cs : List Committed). txns_of l.epoch cs) none
+
+same_told : (m : Machine) (o x y : OpenReplica) (answer : Option Answer) → newly_shown x y ≡ [] → order_lines m o (outcome_of answer x y).commits ≡ []
+same_told m o x y answer none = ap (λ (cs : List Committed). map order_line (drop (length_of (order_of m o.id) - view_of o) cs)) none ∙ ap (map order_line) (drop_none (length_of (order_of m o.id) - view_of o))
+
+same_view : (o x y : OpenReplica) (answer : Option Answer) → view_of y ≡ view_of o → view_line o (outcome_of answer x y) ≡ []
+same_view o x y answer same = ap (λ (n : ℕ). cond (nat_lt (view_of o) n) (says.View o.id n ∷ []) []) same ∙ ap (λ (b : Bool). cond b (says.View o.id (view_of o) ∷ []) []) (no_less (view_of o))
+
+outcome_is : (o : OpenReplica) (step : StepEvent) → step_outcome o step ≡ outcome_of (step_answer o step) (written o step) (looked (written o step))
 unfolding step_outcome
-quiet_outcome o step q = ap (λ (y : OpenReplica). outcome_of (step_answer o step) (written o step) y) q.looks
+outcome_is o step = refl
 
 pub quiet_barrier : (o : OpenReplica) (step : StepEvent) → IsQuiet o step → (step_outcome o step).barrier_due ≡ false
 quiet_barrier o step q =
     let x = written o step in
-    ap (λ (t : Outcome). t.barrier_due) (quiet_outcome o step q)
-    ∙ ap (λ (b : Bool). b || (is_active x && not (is_active x))) (no_less (view_of x))
+    let y = looked x in
+    ap (λ (t : Outcome). t.barrier_due) (outcome_is o step)
+    ∙ ap (λ (n : ℕ). nat_lt (view_of x) n || (is_active y && not (is_active x))) (q.view ∙ sym q.wrote)
+    ∙ ap (λ (b : Bool). b || (is_active y && not (is_active x))) (no_less (view_of x))
+    ∙ ap (λ (b : Bool). b && not (is_active x)) q.active
     ∙ never_both (is_active x)
 
 pub quiet_lines : (m : Machine) (o : OpenReplica) (step : StepEvent) (closing : List Observation) → IsQuiet o step → lines_of_step m o step closing ≡ answer_lines (step_answer o step) ++ inspection_lines o step ++ closing
 unfolding lines_of_step
 quiet_lines m o step closing q =
     let x = written o step in
+    let y = looked x in
     let a = step_answer o step in
-    ap (λ (t : Outcome). order_lines m o t.commits ++ view_line o t ++ active_line o step t ++ map says.Committed t.acknowledged ++ answer_lines t.answer ++ inspection_lines o step ++ closing) (quiet_outcome o step q)
-    ∙ ap (λ (ls : List Observation). ls ++ view_line o (outcome_of a x x) ++ active_line o step (outcome_of a x x) ++ map says.Committed (acknowledged_by x x) ++ answer_lines a ++ inspection_lines o step ++ closing) (same_told m o x a)
-    ∙ ap (λ (ls : List Observation). ls ++ active_line o step (outcome_of a x x) ++ map says.Committed (acknowledged_by x x) ++ answer_lines a ++ inspection_lines o step ++ closing) (same_view o x a q.view)
-    ∙ ap (λ (b : Bool). cond b (says.Active o.id ∷ []) [] ++ map says.Committed (acknowledged_by x x) ++ answer_lines a ++ inspection_lines o step ++ closing) (never_both (is_active x))
-    ∙ ap (λ (ts : List TxnId). map says.Committed ts ++ answer_lines a ++ inspection_lines o step ++ closing) (none_acknowledged x x.leading)
+    ap (λ (t : Outcome). order_lines m o t.commits ++ view_line o t ++ active_line o step t ++ map says.Committed t.acknowledged ++ answer_lines t.answer ++ inspection_lines o step ++ closing) (outcome_is o step)
+    ∙ ap (λ (ls : List Observation). ls ++ view_line o (outcome_of a x y) ++ active_line o step (outcome_of a x y) ++ map says.Committed (acknowledged_by x y) ++ answer_lines a ++ inspection_lines o step ++ closing) (same_told m o x y a q.none)
+    ∙ ap (λ (ls : List Observation). ls ++ active_line o step (outcome_of a x y) ++ map says.Committed (acknowledged_by x y) ++ answer_lines a ++ inspection_lines o step ++ closing) (same_view o x y a q.view)
+    ∙ ap (λ (b : Bool). cond (b && not (is_active x)) (says.Active o.id ∷ []) [] ++ map says.Committed (acknowledged_by x y) ++ answer_lines a ++ inspection_lines o step ++ closing) q.active
+    ∙ ap (λ (b : Bool). cond b (says.Active o.id ∷ []) [] ++ map says.Committed (acknowledged_by x y) ++ answer_lines a ++ inspection_lines o step ++ closing) (never_both (is_active x))
+    ∙ ap (λ (ts : List TxnId). map says.Committed ts ++ answer_lines a ++ inspection_lines o step ++ closing) (acknowledged_none x y.leading y q.none)
 
 -- ---- an event of one such step
 
 -- how an event went whose one act is a step that shows no more
 pub record Stepped (s : FleetState) (event : Event) (r : ℕ) (step : StepEvent) (closing : List Observation) (lines : List Observation) (t : FleetState) (o : OpenReplica) : Type 0 where
   pub lines_are : lines ≡ answer_lines (step_answer o step) ++ inspection_lines o step ++ closing
-  pub ends : t ≡ record { machine = (behind (opened s.machine event) (answer_lines (step_answer o step) ++ inspection_lines o step ++ closing)).machine; replicas = set s.replicas r (Open (written o step)) }
+  pub ends : t ≡ record { machine = (behind (opened s.machine event) (answer_lines (step_answer o step) ++ inspection_lines o step ++ closing)).machine; replicas = set s.replicas r (Open (looked (written o step))) }
 
 pub record Stopped (s : FleetState) (event : Event) (r : ℕ) (step : StepEvent) (lines : List Observation) (t : FleetState) (o : OpenReplica) : Type 0 where
   pub logs : step_block o step ≢ []
@@ -137,8 +151,8 @@ module _ (s t : FleetState) (event : Event) (r : ℕ) (step : StepEvent) (closin
       let is : lines_of_step (opened s.machine event).machine o step closing ≡ own = quiet_lines (opened s.machine event).machine o step closing q in
       let fine : first.how ≡ Fine false = k.how_is ∙ ap (λ (b : Bool). Fine b) (quiet_barrier o step q) in
       let none = no_more (ap (λ (h : How). left_behind (opened s.machine event).event (Takes r step closing) h []) fine) in
-      let scene : d.scene ≡ changed_at at r (Open (written o step)) own =
-      none.1 ∙ k.scene_is ∙ ap (λ (ls : List Observation). changed_at at r (Open (step_result o step)) ls) is ∙ ap (λ (x : OpenReplica). changed_at at r (Open x) own) (quiet_result o step q) in
+      let scene : d.scene ≡ changed_at at r (Open (looked (written o step))) own =
+      none.1 ∙ k.scene_is ∙ ap (λ (ls : List Observation). changed_at at r (Open (step_result o step)) ls) is ∙ ap (λ (x : OpenReplica). changed_at at r (Open x) own) (result_is o step) in
       record { lines_are = all_lines own (k.lines_are ∙ is) none.0; ends = d.ends ∙ ap left scene }
 
   stopped : (o : OpenReplica) → Broke at r step first.how first.first first.mid o → Stopped s event r step lines t o

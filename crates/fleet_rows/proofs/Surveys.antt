@@ -47,7 +47,7 @@ use Rattle.fleet_rows.specs.Laws.{SurveysAreServed}
 use Rattle.fleet_rows.proofs.Keeping.{Done, Shows, KeepsLogs, log_kept, logs_after, replica_elsewhere, at_each_in}
 use Rattle.fleet_rows.proofs.Serving.{serves, shows_as, holds_there}
 use Rattle.fleet_rows.proofs.RoleEnds.{holds_without, surveyed_put, closed_elsewhere, closed_logs, closed_no_role}
-use Rattle.fleet_rows.proofs.QuietSteps.{IsQuiet, one_step, open_is_open, inside}
+use Rattle.fleet_rows.proofs.QuietSteps.{quiet_from, IsQuiet, one_step, open_is_open, inside}
 use Rattle.fleet_rows.proofs.Inspections.{same_shows}
 
 -- ---- what the machine knows of epochs
@@ -177,11 +177,18 @@ written_told o e ge = ap (λ (b : Bool). cond b o (with_fence o e (appended o.di
 written_ignored : (o : OpenReplica) (e : Epoch) → epoch_lt e o.disk.fence ≡ true → written o (steps.Survey e) ≡ o
 written_ignored o e lt = ap (λ (b : Bool). cond b o (with_fence o e (appended o.disk (step_block o (steps.Survey e))))) lt
 
-survey_quiet : (o : OpenReplica) (e : Epoch) → looked o ≡ o → IsQuiet o (steps.Survey e)
-survey_quiet o e settled = elim (cases_Bool (epoch_lt e o.disk.fence)) [
-  | inl lt ↦ let same = written_ignored o e lt in record { looks = ap looked same ∙ settled ∙ sym same; view = ap (λ (x : OpenReplica). view_of x) same }
-  | inr ge ↦ let same = written_told o e ge in record { looks = ap looked same ∙ sym same; view = ap (λ (x : OpenReplica). view_of x) same }
+survey_looks : (o : OpenReplica) (e : Epoch) → looked o ≡ o → looked (written o (steps.Survey e)) ≡ written o (steps.Survey e)
+survey_looks o e settled = elim (cases_Bool (epoch_lt e o.disk.fence)) [
+  | inl lt ↦ let same = written_ignored o e lt in ap looked same ∙ settled ∙ sym same
+  | inr ge ↦ let same = written_told o e ge in ap looked same ∙ sym same
 ]
+
+survey_quiet : (o : OpenReplica) (e : Epoch) → looked o ≡ o → IsQuiet o (steps.Survey e)
+survey_quiet o e settled =
+    quiet_from o (steps.Survey e) (survey_looks o e settled) (elim (cases_Bool (epoch_lt e o.disk.fence)) [
+      | inl lt ↦ ap (λ (x : OpenReplica). view_of x) (written_ignored o e lt)
+      | inr ge ↦ ap (λ (x : OpenReplica). view_of x) (written_told o e ge)
+    ])
 
 answer_told : (o : OpenReplica) (e : Epoch) → epoch_lt e o.disk.fence ≡ false → survey_answer o e ≡ answers.Progress o.id (epoch_of o.disk) (last_lsn o).0
 answer_told o e ge = ap (λ (b : Bool). cond b (answers.IgnoredOldEpoch o.disk.fence e) (answers.Progress o.id (epoch_of o.disk) (last_lsn o).0)) ge
@@ -350,14 +357,14 @@ survey_shows r e s t lines v d =
         | inl lt ↦
             let line : answer_lines (Some (survey_answer o e)) ≡ says.IgnoredOldEpoch o.disk.fence e ∷ [] = ap (λ (a : Answer). answer_lines (Some a)) (answer_ignored o e lt) in
             shows_as s t (record { machine = m; replicas = set s.replicas r (Open o) }) (Survey r e) lines (says.IgnoredOldEpoch o.disk.fence e ∷ []) (fine.lines_are ∙ line)
-            (fine.ends ∙ ap (λ (ls : List Observation). state ls (written o (steps.Survey e))) line ∙ ap (state (says.IgnoredOldEpoch o.disk.fence e ∷ [])) (written_ignored o e lt))
+            (fine.ends ∙ ap (state (answer_lines (Some (survey_answer o e)))) (survey_looks o e (v.sound.standing r o up).settled) ∙ ap (λ (ls : List Observation). state ls (written o (steps.Survey e))) line ∙ ap (state (says.IgnoredOldEpoch o.disk.fence e ∷ [])) (written_ignored o e lt))
             (same_shows s r o (Survey r e) (says.IgnoredOldEpoch o.disk.fence e ∷ []) v up (ignored_served r e s v o up lt))
         | inr ge ↦
             let own : List Observation = says.Progress r (epoch_of o.disk) (last_lsn o).0 ∷ [] in
             let line : answer_lines (Some (survey_answer o e)) ≡ own =
             ap (λ (a : Answer). answer_lines (Some a)) (answer_told o e ge) ∙ ap (λ (i : ℕ). says.Progress i (epoch_of o.disk) (last_lsn o).0 ∷ []) (v.sound.standing r o up).number in
             shows_as s t (state own (surveyed_open o e)) (Survey r e) lines own (fine.lines_are ∙ line)
-            (fine.ends ∙ ap (λ (ls : List Observation). state ls (written o (steps.Survey e))) line ∙ ap (state own) (written_told o e ge))
+            (fine.ends ∙ ap (state (answer_lines (Some (survey_answer o e)))) (survey_looks o e (v.sound.standing r o up).settled) ∙ ap (λ (ls : List Observation). state ls (written o (steps.Survey e))) line ∙ ap (state own) (written_told o e ge))
             (told_shows r e s v o up above)
       ]
       | inr failed ↦ shows_as s t (record { machine = failed_of m r e; replicas = set s.replicas r (Closed (cut_off o (steps.Survey e))) }) (Survey r e) lines (says.Fault r ∷ []) failed.lines_are failed.ends (cut_shows r e s v o up)

@@ -1,9 +1,13 @@
 -- The laws of the lines of a fleet's events.
-use Rattle.std.specs.Prelude.{◌≡◌, ◌≢◌, ℕ, false, List, None}
+use Rattle.std.specs.Prelude.{◌≡◌, ◌≢◌, ℕ, false, List, None, Some}
 use Rattle.rc_base.specs.declared.ids.Epoch.{Epoch}
 use Rattle.events.specs.declared.event.Event.{Event}
 use Rattle.events.specs.declared.event.Event.TheVariants.{Client, Arm, Crash, Reboot, Inspect, Survey}
+use Rattle.coll_model.specs.declared.op.Op.{Op}
+use Rattle.rc_base.specs.declared.ids.TxnId.{TxnId}
 use Rattle.events.specs.declared.call.Call.{Call}
+use Rattle.events.specs.declared.call.Call.TheVariants.{Abort}
+use Rattle.events.specs.declared.answer.Reply.{Reply}
 use Rattle.order_machine.specs.declared.observation.Observation.{Observation}
 use Rattle.order_machine.specs.Clients.{answer}
 use Rattle.order_machine.specs.Transitions.{refusal, logs}
@@ -56,3 +60,13 @@ abbrev pub QuietCallsAreServed : Type 0
 QuietCallsAreServed =
     (s t : FleetState) (r : ℕ) (call : Call) (lines : List Observation) → Served s → logs s.machine call (answer s.machine r call) ≡ false → GoesBy s (Client r call) lines t
     → AreServed s (Client r call) lines t
+
+-- a call that logs an operation, where it is done and where the disk fails in it
+abbrev pub OperationsAreServed : Type 0
+OperationsAreServed =
+    (s t : FleetState) (r : ℕ) (call : Call) (told : Reply) (op : Op) (lines : List Observation) → Served s → answer s.machine r call ≡ Some told → told.op ≡ Some op → GoesBy s (Client r call) lines t
+    → AreServed s (Client r call) lines t
+
+-- an abort, whatever its transaction has logged, where it is done and where the disk fails in it
+abbrev pub AbortsAreServed : Type 0
+AbortsAreServed = (s t : FleetState) (r : ℕ) (txn : TxnId) (lines : List Observation) → Served s → GoesBy s (Client r (Abort txn)) lines t → AreServed s (Client r (Abort txn)) lines t

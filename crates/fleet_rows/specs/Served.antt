@@ -1,5 +1,5 @@
 -- When a fleet is served: what its replicas keep, and what the machine knows that its lines tell, are one.
-use Rattle.std.specs.Prelude.{◌≡◌, ◌⊎◌, ℕ, ◌==◌, Bool, true, false, List, [], ◌∷◌, ◌++◌, map, length, take, Contains, Some, None, is_some, option_map, MatchOption, MatchBool}
+use Rattle.std.specs.Prelude.{◌≡◌, ◌⊎◌, ◌≤◌, ℕ, ◌==◌, Bool, true, false, List, [], ◌∷◌, ◌++◌, map, length, take, Contains, Option, Some, None, is_some, option_map, MatchOption, MatchBool}
 use Rattle.std.specs.List.{list_any}
 use Rattle.std.specs.List.Sorted.{IsStrictlySortedBy}
 use Rattle.std.specs.Map.{keys_of}
@@ -11,7 +11,9 @@ use Rattle.key_locks.specs.Grants.{Alike}
 use Rattle.log_records.specs.declared.record.Record.{Record}
 use Rattle.txn_table.specs.declared.committed.Committed.{Committed}
 use Rattle.txn_table.specs.Log.{Items, commits_from, commits_in, IsLogFrom}
-use Rattle.txn_table.specs.Whole.{Whole, epoch_of, stable_of, commits_to}
+use Rattle.txn_table.specs.declared.known.Known.{Known}
+use Rattle.txn_table.specs.Commits.{with_txn, is_pending, last_of}
+use Rattle.txn_table.specs.Whole.{Whole, epoch_of, stable_of, commits_to, transactions_of}
 use Rattle.order_machine.specs.Machine.{Machine, Role, empty_machine, replica, role_of, grants_of, live_txn, appointment_of, ops_of}
 use Rattle.order_machine.specs.Legal.{Step, AreWhole, moved_all}
 use Rattle.history_laws.specs.Texts.{IsText}
@@ -88,6 +90,17 @@ pub record IsFrontOf (m : Machine) (r : ℕ) (f : Fronted) : Type 0 where
   pub rising : IsStrictlySortedBy nat_cmp (keys_of f.live)
   pub recorded : (t : TxnId) (g : Going) → going_of f t ≡ Some g → (g.last.0 == 0) ≡ (length g.ops == 0)
 
+-- The log knows what goes on as the primary does: not at all before its first record, and then as pending, with the same last record and operations.
+abbrev pub IsKnownAs : Going → Option Known → Type 0
+IsKnownAs going None = (going.last.0 ≡ 0) × (going.ops ≡ [])
+IsKnownAs going (Some known) = (1 ≤ going.last.0) × (is_pending known ≡ true) × (last_of known ≡ going.last) × (map (λ o. o.1) known.ops ≡ going.ops)
+
+-- So it is with each transaction that goes on; and the begins count it, and those of the epoch that the log knows.
+pub record IsLoggedBy (w : Whole) (f : Fronted) : Type 0 where
+  pub begun : (t : TxnId) (g : Going) → going_of f t ≡ Some g → t.n ≤ f.begins
+  pub each : (t : TxnId) (g : Going) → going_of f t ≡ Some g → IsKnownAs g (with_txn t (transactions_of w))
+  pub counted : (t : TxnId) (k : Known) → with_txn t (transactions_of w) ≡ Some k → t.epoch ≡ f.epoch → t.n ≤ f.begins
+
 -- Until a primary is active nothing goes on there, and what its log commits is all at each place that is of its epoch.
 pub record IsWaiting (m : Machine) (r : ℕ) (o : OpenReplica) (l : Leading) : Type 0 where
   pub idle : IdleReplica m r
@@ -103,6 +116,7 @@ pub record IsPrimaryOf (m : Machine) (r : ℕ) (o : OpenReplica) (l : Leading) :
   pub begins : role.begins ≡ o.front.begins
   pub front_epoch : o.front.epoch ≡ l.epoch
   pub front : IsFrontOf m r o.front
+  pub logged : IsLoggedBy o.disk o.front
   pub requests : ContainsRequests m.txns r l.epoch (commits_of o.disk)
   pub guard : MatchBool l.active (ReplicaGuard m r (unshown_commits o)) (IsWaiting m r o l)
 

@@ -2,7 +2,7 @@
 //! machine, and the state behind them is served. Each law is the contract of a function that does nothing.
 #![tactic(auto)]
 
-ghost use Rattle.fleet_rows.specs.Laws.{ArmsAreServed, CrashesAreServed, FirstIsServed, InspectionsAreServed, QuietCallsAreServed, RebootsAreServed, RefusedAreServed, SurveysAreServed};
+ghost use Rattle.fleet_rows.specs.Laws.{AbortsAreServed, ArmsAreServed, CrashesAreServed, FirstIsServed, InspectionsAreServed, OperationsAreServed, QuietCallsAreServed, RebootsAreServed, RefusedAreServed, SurveysAreServed};
 
 /// Before anything happened the fleet is served.
 pub fn first_is_served()
@@ -46,4 +46,17 @@ pub fn surveys_are_served()
 /// transaction that has ended, and the abort of one that has logged nothing.
 pub fn quiet_calls_are_served()
     ensures { QuietCallsAreServed }
+{}
+
+/// A client's call that logs an operation: the operation goes on at the primary and in the machine, and the log has it, behind
+/// the start of its transaction where it is the first; nothing more comes to be shown by it. Or the disk fails in it, and holds the log
+/// without the operation or with it.
+pub fn operations_are_served()
+    ensures { OperationsAreServed }
+{}
+
+/// An abort, whatever its transaction has logged: the transaction goes on no more, and its locks go. Or the disk fails in it, and holds
+/// the log without its end or with it.
+pub fn aborts_are_served()
+    ensures { AbortsAreServed }
 {}

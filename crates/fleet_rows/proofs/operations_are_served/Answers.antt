@@ -1,0 +1,6 @@
+use Rattle.fleet_run.proofs.EventRuns.{events_keep_sound}
+use Rattle.fleet_rows.proofs.OperationCalls as proof
+use Rattle.fleet_rows.proofs.operations_are_served.Goals as goal
+
+pub returns : goal.returns
+returns c = proof.operations_are_served events_keep_sound
